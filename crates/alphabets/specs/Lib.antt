@@ -1,0 +1,3 @@
+pub mod Alphabets
+pub mod Pams
+pub mod Grids
