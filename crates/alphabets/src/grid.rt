@@ -40,6 +40,9 @@ pub impl<P: Alphabet<Point = Whole>> Alphabet for Grid<P> as GridAlphabet {
         }
         let re = point_or_origin(&self.side, index / side);
         let im = point_or_origin(&self.side, index % side);
-        Ok(Pair { re: re.value, im: im.value })
+        Ok(Pair {
+            re: re.value,
+            im: im.value,
+        })
     }
 }

@@ -62,7 +62,9 @@ pub impl Alphabet for Pam as PamAlphabet {
     fn point(&self, index: usize) -> Result<Whole, AlphabetFault> {
         let size = self.size.count();
         if index < size {
-            Ok(Whole { value: 2 * index as i32 - (size as i32 - 1) })
+            Ok(Whole {
+                value: 2 * index as i32 - (size as i32 - 1),
+            })
         } else {
             Err(AlphabetFault::Index)
         }

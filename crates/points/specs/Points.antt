@@ -9,8 +9,11 @@
 --   levels         how many levels a block has
 --   size-limit     how many points an alphabet has at most
 --   parts          how many words a channel or received value takes
+--   value-at sh ws i  the channel or received value whose words begin at place i of ws, a pair as real then imaginary part
+use mathlib.Core.List.{List}
 use Prim.Native.Nat.{ℕ, _+_, _*_, _≤_}
 use lib.IntN.{ℤ, pos, natAbs, _+ℤ_, _-ℤ_, _*ℤ_}
+use lib.ListN.{getD}
 
 pub record Gaussian : Type 0 where
   pub re : ℤ
@@ -66,3 +69,7 @@ size-limit pair = 256
 abbrev pub parts : Shape → ℕ
 parts whole = 1
 parts pair = 2
+
+abbrev pub value-at : Shape → List ℤ → ℕ → Gaussian
+value-at whole ws i = real (getD ws i (pos 0))
+value-at pair ws i = gaussian (getD ws i (pos 0)) (getD ws (i + 1) (pos 0))

@@ -1,8 +1,8 @@
 // The kind of a point: what targets and amounts need of it.
 ghost use mathlib.Core.Path.{_≡_};
-ghost use Prim.Native.Nat.{ℕ, _≤_, _<_, _^_};
-ghost use lib.IntN.{ℤ};
-ghost use Rattle.points.specs.Points.{Gaussian, gaussian, minus, times, amount, Within, Shape, project, levels, parts};
+ghost use Prim.Native.Nat.{ℕ, _+_, _*_, _≤_, _<_, _^_};
+ghost use lib.ListN.{length};
+ghost use Rattle.points.specs.Points.{Gaussian, gaussian, minus, times, amount, Within, Shape, project, levels, parts, value-at};
 
 pub trait Kind: Copy {
     // how many levels a block of this kind has
@@ -30,6 +30,11 @@ pub trait Kind: Copy {
     // The value with these parts; a whole number takes the first alone.
     fn from_parts(re: i32, im: i32) -> Self
         ensures { λ p. ⌜ meaning p ≡ project shape (gaussian re im) ⌝ };
+
+    // The value number `index` of those that the words hold one after another.
+    fn read(words: &[i32], index: usize) -> Self
+        requires { ⌜ parts shape * index + parts shape ≤ length (now words) ⌝ }
+        ensures { λ p. ⌜ meaning p ≡ value-at shape (now (words .entry)) (parts shape * index) ⌝ };
 
     fn real(self) -> i32
         ensures { λ x. ⌜ x ≡ meaning self .re ⌝ };

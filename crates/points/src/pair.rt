@@ -31,6 +31,10 @@ pub impl Kind for Pair as PairKind {
         Pair { re, im }
     }
 
+    fn read(words: &[i32], index: usize) -> Pair {
+        Pair { re: words[2 * index], im: words[2 * index + 1] }
+    }
+
     fn real(self) -> i32 {
         self.re
     }

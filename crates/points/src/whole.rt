@@ -31,6 +31,10 @@ pub impl Kind for Whole as WholeKind {
         Whole { value: re }
     }
 
+    fn read(words: &[i32], index: usize) -> Whole {
+        Whole { value: words[index] }
+    }
+
     fn real(self) -> i32 {
         self.value
     }

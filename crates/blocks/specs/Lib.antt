@@ -1,0 +1,5 @@
+pub mod Rounding
+pub mod Words
+pub mod Systems
+pub mod Refusals
+pub mod Blocks

@@ -1,0 +1,83 @@
+// Reading a block from raw words.
+ghost use mathlib.Core.Path.{_≡_};
+ghost use mathlib.Core.List.{map};
+ghost use Prim.Native.Nat.{ℕ, _+_, _*_, _≤_, _<_};
+ghost use lib.IntN.{pos};
+ghost use lib.ListN.{length, getD};
+ghost use Rattle.std.specs.Results.{Cases, mapped};
+ghost use Rattle.std.specs.declared.option.Option.the-variants.{Some, None};
+ghost use Rattle.blocks.specs.Rounding.{rounded};
+ghost use Rattle.blocks.specs.Words.{outside, first-outside, all-within, ReadOut};
+ghost use Rattle.points.specs.Points.{levels};
+ghost use Rattle.blocks.specs.Systems.{rows as rowsOf};
+ghost use Rattle.blocks.specs.Refusals.{outside-gain, row-fault, channel-count, channel-fault, answer, load-answer};
+ghost use Rattle.blocks.specs.Blocks.{RowRead, matrix-of, block-of};
+use super::Block;
+use super::ChannelRow;
+use crate::rounding::ExtraBits;
+use faults::load::LoadFault;
+use points::kind::Kind;
+
+fn is_outside(word: i32, limit: u16) -> bool
+    ensures { λ r. ⌜ r ≡ outside limit word ⌝ }
+{
+    let limit = limit as i32;
+    word < -limit || word >= limit
+}
+
+fn is_outside_gain(word: i32) -> bool
+    ensures { λ r. ⌜ r ≡ outside-gain word ⌝ }
+{
+    word < 0 || word > 2047
+}
+
+// The words of `count` places from `place` on, rounded; or the first place whose word is outside -limit to limit - 1.
+fn read_words(words: &[i32], bits: ExtraBits, place: usize, count: usize, limit: u16) -> Result<[i32; 8], usize>
+    requires few { ⌜ count ≤ 8 ⌝ }
+    requires there { ⌜ place + count ≤ length (now words) ⌝ }
+    ensures { λ r. ⌜ Cases r (λ read. ReadOut limit count place (map (rounded (bits .count)) (now (words .entry))) read) (λ p. first-outside limit count place (map (rounded (bits .count)) (now (words .entry))) ≡ Some p) ⌝ }
+{
+    let mut read = [0; 8];
+    for k in 0..count {
+        let word = bits.round(words[place + k]);
+        if is_outside(word, limit) {
+            return Err(place + k);
+        }
+        read[k] = word;
+    }
+    Ok(read)
+}
+
+// The row whose diagonal word is at `place`, with `others` words right of it.
+fn read_row(words: &[i32], bits: ExtraBits, place: usize, others: usize) -> Result<ChannelRow, LoadFault>
+    requires few { ⌜ others ≤ 8 ⌝ }
+    requires there { ⌜ place + 1 + others ≤ length (now words) ⌝ }
+    ensures { λ r. ⌜ Cases r (λ row. RowRead others place (map (rounded (bits .count)) (now (words .entry))) row) (λ f. row-fault others place (map (rounded (bits .count)) (now (words .entry))) ≡ Some f) ⌝ }
+{
+    let gain = bits.round(words[place]);
+    if is_outside_gain(gain) {
+        return Err(LoadFault::Diagonal { word: place });
+    }
+    match read_words(words, bits, place + 1, others, 2048) {
+        Ok(words) => Ok(ChannelRow { gain: gain as u32, words }),
+        Err(word) => Err(LoadFault::Part { word }),
+    }
+}
+
+// The rows of the channel, level 1 first.
+fn read_channel<K: Kind>(words: &[i32], bits: ExtraBits) -> Result<[ChannelRow; 8], LoadFault>
+    requires { ⌜ length (now words) ≡ channel-count shape ⌝ }
+    ensures rows { λ r. ⌜ mapped (matrix-of shape (levels shape)) (λ f. f) r ≡ answer (channel-fault shape (levels shape) 0 (map (rounded (bits .count)) (now (words .entry)))) (rowsOf shape (levels shape) 0 (map (rounded (bits .count)) (now (words .entry)))) ⌝ }
+    ensures eight { λ r. ⌜ Cases r (λ rs. length rs ≡ 8) (λ _. ⊥ → ⊥) ⌝ }
+{
+    let mut rows = [ChannelRow { gain: 0, words: [0; 8] }; 8];
+    let mut place = 0;
+    let levels = K::level_count();
+    let parts = K::part_count();
+    for level in 0..levels {
+        let others = parts * (levels - 1 - level);
+        rows[level] = read_row(words, bits, place, others)?;
+        place += 1 + others;
+    }
+    Ok(rows)
+}

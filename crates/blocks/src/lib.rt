@@ -1,0 +1,3 @@
+// Blocks: a triangular channel and what was received, read from raw words.
+pub mod block;
+pub mod rounding;
