@@ -1,3 +1,4 @@
 pub mod Rounds
 pub mod Limits
 pub mod Rows
+pub mod Loads

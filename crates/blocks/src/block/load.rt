@@ -81,3 +81,31 @@ fn read_channel<K: Kind>(words: &[i32], bits: ExtraBits) -> Result<[ChannelRow; 
     }
     Ok(rows)
 }
+
+impl Block {
+    // The block of these raw words, each with so many extra bits, for points of the kind K.
+    pub fn load<K: Kind>(extra_bits: u8, channel: &[i32], received: &[i32]) -> Result<Block, LoadFault>
+        ensures { λ r. ⌜ mapped (block-of shape) (λ f. f) r ≡ load-answer shape «extra_bits» (now (channel .entry)) (now (received .entry)) ⌝ }
+    {
+        let bits = ExtraBits::new(extra_bits)?;
+        if channel.len() != channel_count::<K>() {
+            return Err(LoadFault::ChannelCount);
+        }
+        if received.len() != 8 {
+            return Err(LoadFault::ReceivedCount);
+        }
+        let rows = read_channel::<K>(channel, bits)?;
+        match read_words(received, bits, 0, 8, 32768) {
+            Ok(received) => Ok(Block { rows, received }),
+            Err(word) => Err(LoadFault::Received { word }),
+        }
+    }
+}
+
+// How many words the channel list has: n levels have n diagonal entries and n(n − 1)/2 others.
+fn channel_count<K: Kind>() -> usize
+    ensures { λ n. ⌜ n ≡ channel-count shape ⌝ }
+{
+    let levels = K::level_count();
+    levels + K::part_count() * (levels * (levels - 1) / 2)
+}
