@@ -17,9 +17,10 @@ use Rattle.std.specs.declared.option.Option.{Option}
 use Rattle.std.specs.declared.option.Option.the-variants.{Some, None}
 use Rattle.faults.specs.declared.load.LoadFault.{LoadFault}
 use Rattle.faults.specs.declared.load.LoadFault.the-variants.{Diagonal, Part}
-use Rattle.points.specs.Points.{Gaussian, gaussian, real, Shape, whole, pair, levels, parts, value-at}
-use Rattle.blocks.specs.Words.{first-outside}
+use Rattle.points.specs.Points.{Gaussian, gaussian, origin, real, Within, Shape, whole, pair, levels, parts, value-at}
+use Rattle.blocks.specs.Words.{first-outside, all-within}
 use Rattle.blocks.specs.Systems.{values, rows}
+use Rattle.blocks.proofs.Limits.{within-at}
 use Rattle.blocks.specs.declared.block.ChannelRow.{ChannelRow}
 use Rattle.blocks.specs.Blocks.{row-of, matrix-of, RowRead}
 use Rattle.blocks.specs.Refusals.{outside-gain, row-fault, channel-count, channel-fault, or-else}
@@ -133,3 +134,17 @@ matrix-built sh (suc n) (r ∷ rs) (x ∷ m) size room h =
     (matrix-built sh n rs m (omega arith) (omega arith) (λ d j b.
       let same : n - 1 - j ≡ suc n - 1 - suc j = omega arith in
       ap (λ (k : ℕ). row-of sh k (getD rs j d)) same ∙ h d (suc j) (omega arith)))
+
+-- one of many values, and what it is made of
+pub value-of-many : (sh : Shape) (n i k : ℕ) (ws : List ℤ) → k < n → getD (values sh n i ws) k origin ≡ value-at sh ws (i + parts sh * k)
+value-of-many sh zero i k ws h = let bad : ⊥ = omega arith in absurd bad
+value-of-many sh (suc n) i zero ws h = let z : i ≡ i + parts sh * 0 = omega arith in ap (value-at sh ws) z
+value-of-many sh (suc n) i (suc k) ws h = value-of-many sh n (i + parts sh) k ws (omega arith) ∙ ap (value-at sh ws) (moved sh)
+  where
+    moved : (sh : Shape) → i + parts sh + parts sh * k ≡ i + parts sh * suc k
+    moved whole = omega arith
+    moved pair = omega arith
+
+pub value-near : (sh : Shape) (b : ℕ) (ws : List ℤ) (i : ℕ) → all-within b ws ≡ true → Within b (value-at sh ws i)
+value-near whole b ws i t = record { re = within-at b ws i t; im = omega arith }
+value-near pair b ws i t = record { re = within-at b ws i t; im = within-at b ws (i + 1) t }

@@ -5,6 +5,7 @@ ghost use Prim.Native.Nat.{_≤_};
 ghost use lib.ListN.{length};
 ghost use Rattle.blocks.specs.Words.{all-within};
 
+pub mod entries;
 pub mod load;
 
 // One row of the channel: its diagonal entry, and the words of the entries to the right.
@@ -17,7 +18,7 @@ pub struct ChannelRow {
     ghost near: { all-within 2048 words ≡ true },
 }
 
-// Level 1 first. Words and rows that the kind of point has no use for are 0.
+// Level 1 first. What lies past the levels of its kind of point is never looked at.
 #[derive(Clone, Copy)]
 pub struct Block {
     rows: [ChannelRow; 8],
