@@ -1,0 +1,38 @@
+-- Codewords: one point of the alphabet for each level, by its index, s_1 first.
+--
+--   IsCodeword m n w      w has n indices, each below the alphabet's size m; is-codeword tests it
+--   spelled pts w         the points of w
+--   word-distance b pts w   the distance of w in the block b
+--   Earlier v w           v comes before w: of the highest level at which they differ, v has the smaller index
+use mathlib.Core.Path.{_≡_}
+use mathlib.Core.Bool.{Bool, true, _&&_}
+use mathlib.Core.List.{List, [], _∷_, map}
+use mathlib.Core.Logic.{_⊎_}
+use Prim.Native.Nat.{ℕ, _<_}
+use lib.Dec.{eqb, ltb}
+use lib.ListN.{length, getD}
+use Rattle.std.specs.shelf.Lists.{All}
+use Rattle.points.specs.Points.{Gaussian, origin}
+use Rattle.blocks.specs.Systems.{System}
+use Rattle.codewords.specs.Distances.{distance}
+
+abbrev pub IsCodeword : ℕ → ℕ → List ℕ → Type 0
+IsCodeword m n w = (length w ≡ n) × All (λ i. i < m) w
+
+abbrev pub all-below : ℕ → List ℕ → Bool
+all-below m [] = true
+all-below m (i ∷ w) = ltb i m && all-below m w
+
+abbrev pub is-codeword : ℕ → ℕ → List ℕ → Bool
+is-codeword m n w = eqb (length w) n && all-below m w
+
+abbrev pub spelled : List Gaussian → List ℕ → List Gaussian
+spelled pts w = map (λ i. getD pts i origin) w
+
+abbrev pub word-distance : System → List Gaussian → List ℕ → ℕ
+word-distance b pts w = distance (b .matrix) (b .received) (spelled pts w)
+
+abbrev pub Earlier : List ℕ → List ℕ → Type 0
+Earlier [] w = ⊥
+Earlier (i ∷ v) [] = ⊥
+Earlier (i ∷ v) (j ∷ w) = Earlier v w ⊎ ((v ≡ w) × (i < j))

@@ -1,0 +1,4 @@
+pub mod Distances
+pub mod Codewords
+pub mod Nearest
+pub mod Numbers

@@ -1,0 +1,61 @@
+// The distance of a codeword, level by level.
+ghost use mathlib.Core.Path.{_≡_};
+ghost use mathlib.Core.List.{[]};
+ghost use Prim.Native.Nat.{ℕ, _+_, _-_, _≤_, _<_, _^_};
+ghost use lib.ListN.{length, getD, drop};
+ghost use Rattle.std.specs.Options.{Cases as BySome, whenTrue};
+ghost use Rattle.points.specs.Points.{Within, origin, minus, levels};
+ghost use Rattle.blocks.specs.Blocks.{block-of};
+ghost use Rattle.codewords.specs.Distances.{dot};
+ghost use Rattle.codewords.specs.Codewords.{is-codeword, spelled, word-distance};
+use alphabets::alphabet::Alphabet;
+use alphabets::alphabet::point_or_origin;
+use blocks::block::Block;
+use points::kind::Kind;
+
+// The target of a level, counted from 0: z_l less the r_lj·s_j of the levels above, whose indices are given from the next level on.
+pub fn target<B: Alphabet>(alphabet: &B, block: &Block, level: usize, above: &[usize]) -> B::Point
+    requires { ⌜ level + 1 + length (now above) ≤ levels (Point·Kind .shape) ⌝ }
+    ensures value { λ u. ⌜ Point·Kind .meaning u ≡ minus (getD (block-of (Point·Kind .shape) (now (block .entry)) .received) level origin) (dot (drop 1 (getD (block-of (Point·Kind .shape) (now (block .entry)) .matrix) level [])) (spelled (points (now (alphabet .entry))) (now (above .entry)))) ⌝ }
+    ensures near { λ u. ⌜ Within 1048576 (Point·Kind .meaning u) ⌝ }
+{
+    let row = block.row(level);
+    let mut u = block.received::<B::Point>(level);
+    for (k, index) in above.iter().enumerate() {
+        let entry = row.coupling::<B::Point>(k);
+        u = u.minus_product(entry, point_or_origin(alphabet, *index));
+    }
+    u
+}
+
+// The sum of the levels' amounts, for as many indices as there are levels.
+pub fn word_distance<B: Alphabet>(alphabet: &B, block: &Block, word: &[usize]) -> u64
+    requires { ⌜ length (now word) ≡ levels (Point·Kind .shape) ⌝ }
+    ensures value { λ d. ⌜ d ≡ word-distance (block-of (Point·Kind .shape) (now (block .entry))) (points (now (alphabet .entry))) (now (word .entry)) ⌝ }
+    ensures bound { λ d. ⌜ d < 2 ^ 40 ⌝ }
+{
+    let mut sum = 0;
+    for (level, index) in word.iter().enumerate() {
+        let target = target(alphabet, block, level, &word[level + 1..]);
+        let gain = block.row(level).gain();
+        sum += target.amount(gain, point_or_origin(alphabet, *index));
+    }
+    sum
+}
+
+// The distance of a codeword, s_1 first; none where the list is no codeword of the alphabet.
+pub fn distance<B: Alphabet>(alphabet: &B, block: &Block, word: &[usize]) -> Option<u64>
+    ensures value { λ r. ⌜ r ≡ whenTrue (is-codeword (length (points (now (alphabet .entry)))) (levels (Point·Kind .shape)) (now (word .entry))) (word-distance (block-of (Point·Kind .shape) (now (block .entry))) (points (now (alphabet .entry))) (now (word .entry))) ⌝ }
+    ensures bound { λ r. ⌜ BySome r (Unit {0}) (λ d. d < 2 ^ 40) ⌝ }
+{
+    if word.len() != <B::Point as Kind>::level_count() {
+        return None;
+    }
+    let size = alphabet.size();
+    for index in word {
+        if *index >= size {
+            return None;
+        }
+    }
+    Some(word_distance(alphabet, block, word))
+}

@@ -1,0 +1,38 @@
+// The nearest codeword by looking at every codeword: the reference for the decoders.
+ghost use mathlib.Core.Path.{_≡_};
+ghost use Prim.Native.Nat.{_<_, _^_};
+ghost use lib.ListN.{take};
+ghost use Rattle.points.specs.Points.{levels};
+ghost use Rattle.blocks.specs.Blocks.{block-of};
+ghost use Rattle.codewords.specs.Nearest.{Nearest};
+use crate::codeword::Codeword;
+use crate::distance::word_distance;
+use alphabets::alphabet::Alphabet;
+use blocks::block::Block;
+use points::kind::Kind;
+
+#[derive(Clone, Copy)]
+pub struct Decision {
+    pub codeword: Codeword,
+    pub distance: u64,
+}
+
+// The nearest codeword, the earlier one among equals.
+pub fn nearest<B: Alphabet>(alphabet: &B, block: &Block) -> Decision
+    ensures nearest { λ r. ⌜ Nearest (block-of (Point·Kind .shape) (now (block .entry))) (points (now (alphabet .entry))) (levels (Point·Kind .shape)) (take (r .codeword .levels) (r .codeword .indices)) (r .distance) ⌝ }
+    ensures bound { λ r. ⌜ r .distance < 2 ^ 40 ⌝ }
+{
+    let size = alphabet.size();
+    let levels = <B::Point as Kind>::level_count();
+    let mut best = Codeword::numbered(size, levels, 0);
+    let mut least = word_distance(alphabet, block, best.as_slice());
+    for number in 1..size.pow(levels as u32) {
+        let codeword = Codeword::numbered(size, levels, number);
+        let distance = word_distance(alphabet, block, codeword.as_slice());
+        if distance < least {
+            best = codeword;
+            least = distance;
+        }
+    }
+    Decision { codeword: best, distance: least }
+}
