@@ -64,9 +64,11 @@ values-same sh (suc n) i j xs ys h = ap₂ _∷_ (first sh h) (values-same sh n 
   where
     at : (k : ℕ) {x y : ℕ} → i + k ≡ x → j + k ≡ y → getD xs (i + k) (pos 0) ≡ getD ys (j + k) (pos 0) → getD xs x (pos 0) ≡ getD ys y (pos 0)
     at k p q e = rw (← p, ← q) e
+
     first : (sh : Shape) → ((k : ℕ) → k < parts sh * suc n → getD xs (i + k) (pos 0) ≡ getD ys (j + k) (pos 0)) → value-at sh xs i ≡ value-at sh ys j
     first whole h = ap real (at 0 (omega arith) (omega arith) (h 0 (omega arith)))
     first pair h = ap₂ gaussian (at 0 (omega arith) (omega arith) (h 0 (omega arith))) (h 1 (omega arith))
+
     rest : (sh : Shape) → ((k : ℕ) → k < parts sh * suc n → getD xs (i + k) (pos 0) ≡ getD ys (j + k) (pos 0)) → (k : ℕ) → k < parts sh * n → getD xs (i + parts sh + k) (pos 0) ≡ getD ys (j + parts sh + k) (pos 0)
     rest whole h k b = at (1 + k) (omega arith) (omega arith) (h (1 + k) (omega arith))
     rest pair h k b = at (2 + k) (omega arith) (omega arith) (h (2 + k) (omega arith))
@@ -132,8 +134,8 @@ matrix-built sh (suc n) (r ∷ rs) (x ∷ m) size room h =
     let top : suc n - 1 - 0 ≡ n = omega arith in
     ap₂ _∷_ (ap (λ (k : ℕ). row-of sh k r) (sym top) ∙ h r 0 (omega arith))
     (matrix-built sh n rs m (omega arith) (omega arith) (λ d j b.
-      let same : n - 1 - j ≡ suc n - 1 - suc j = omega arith in
-      ap (λ (k : ℕ). row-of sh k (getD rs j d)) same ∙ h d (suc j) (omega arith)))
+    let same : n - 1 - j ≡ suc n - 1 - suc j = omega arith in
+    ap (λ (k : ℕ). row-of sh k (getD rs j d)) same ∙ h d (suc j) (omega arith)))
 
 -- one of many values, and what it is made of
 pub value-of-many : (sh : Shape) (n i k : ℕ) (ws : List ℤ) → k < n → getD (values sh n i ws) k origin ≡ value-at sh ws (i + parts sh * k)

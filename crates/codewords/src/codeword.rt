@@ -15,7 +15,7 @@ pub struct Codeword {
 
 impl Codeword {
     // The codeword number `number`, in codeword order, over an alphabet of `size` points.
-    pub fn numbered(size: usize, levels: usize, number: usize) -> Codeword
+    pub(crate) fn numbered(size: usize, levels: usize, number: usize) -> Codeword
         requires some { ⌜ 0 < size ⌝ }
         requires few { ⌜ levels ≤ 8 ⌝ }
         ensures word { λ c. ⌜ take (c .levels) (c .indices) ≡ numbered size levels number ⌝ }

@@ -7,7 +7,7 @@ ghost use Rattle.std.specs.Options.{Cases as BySome, whenTrue};
 ghost use Rattle.points.specs.Points.{Within, origin, minus, levels};
 ghost use Rattle.blocks.specs.Blocks.{block-of};
 ghost use Rattle.codewords.specs.Distances.{dot};
-ghost use Rattle.codewords.specs.Codewords.{is-codeword, spelled, word-distance};
+ghost use Rattle.codewords.specs.Codewords.{all-below, is-codeword, spelled, word-distance};
 use alphabets::alphabet::Alphabet;
 use alphabets::alphabet::point_or_origin;
 use blocks::block::Block;
@@ -29,7 +29,7 @@ pub fn target<B: Alphabet>(alphabet: &B, block: &Block, level: usize, above: &[u
 }
 
 // The sum of the levels' amounts, for as many indices as there are levels.
-pub fn word_distance<B: Alphabet>(alphabet: &B, block: &Block, word: &[usize]) -> u64
+pub(crate) fn word_distance<B: Alphabet>(alphabet: &B, block: &Block, word: &[usize]) -> u64
     requires { ⌜ length (now word) ≡ levels (Point·Kind .shape) ⌝ }
     ensures value { λ d. ⌜ d ≡ word-distance (block-of (Point·Kind .shape) (now (block .entry))) (points (now (alphabet .entry))) (now (word .entry)) ⌝ }
     ensures bound { λ d. ⌜ d < 2 ^ 40 ⌝ }
@@ -48,14 +48,20 @@ pub fn distance<B: Alphabet>(alphabet: &B, block: &Block, word: &[usize]) -> Opt
     ensures value { λ r. ⌜ r ≡ whenTrue (is-codeword (length (points (now (alphabet .entry)))) (levels (Point·Kind .shape)) (now (word .entry))) (word-distance (block-of (Point·Kind .shape) (now (block .entry))) (points (now (alphabet .entry))) (now (word .entry))) ⌝ }
     ensures bound { λ r. ⌜ BySome r (Unit {0}) (λ d. d < 2 ^ 40) ⌝ }
 {
-    if word.len() != <B::Point as Kind>::level_count() {
+    if word.len() != <B::Point as Kind>::level_count() || !all_below(word, alphabet.size()) {
         return None;
     }
-    let size = alphabet.size();
+    Some(word_distance(alphabet, block, word))
+}
+
+// Whether every index is below the size.
+fn all_below(word: &[usize], size: usize) -> bool
+    ensures { λ r. ⌜ r ≡ all-below size (now (word .entry)) ⌝ }
+{
     for index in word {
         if *index >= size {
-            return None;
+            return false;
         }
     }
-    Some(word_distance(alphabet, block, word))
+    true
 }

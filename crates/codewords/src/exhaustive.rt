@@ -34,5 +34,8 @@ pub fn nearest<B: Alphabet>(alphabet: &B, block: &Block) -> Decision
             least = distance;
         }
     }
-    Decision { codeword: best, distance: least }
+    Decision {
+        codeword: best,
+        distance: least,
+    }
 }

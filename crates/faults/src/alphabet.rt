@@ -20,6 +20,10 @@ impl AlphabetFault {
             AlphabetFault::PamSize => 10,
             AlphabetFault::Index => 15,
         };
-        Report { number, place: 0, layer: Layer::Alphabet }
+        Report {
+            number,
+            place: 0,
+            layer: Layer::Alphabet,
+        }
     }
 }

@@ -33,6 +33,10 @@ impl LoadFault {
             LoadFault::Part { word } => (24, word),
             LoadFault::Received { word } => (26, word),
         };
-        Report { number, place, layer: Layer::Decoder }
+        Report {
+            number,
+            place,
+            layer: Layer::Decoder,
+        }
     }
 }

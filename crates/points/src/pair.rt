@@ -13,6 +13,7 @@ pub struct Pair {
 
 pub impl Kind for Pair as PairKind {
     const LEVELS: usize = 4;
+
     const PARTS: usize = 2;
 
     ghost shape = { pairShape };
@@ -32,7 +33,10 @@ pub impl Kind for Pair as PairKind {
     }
 
     fn read(words: &[i32], index: usize) -> Pair {
-        Pair { re: words[2 * index], im: words[2 * index + 1] }
+        Pair {
+            re: words[2 * index],
+            im: words[2 * index + 1],
+        }
     }
 
     fn real(self) -> i32 {
@@ -46,7 +50,10 @@ pub impl Kind for Pair as PairKind {
     fn minus_product(self, entry: Pair, point: Pair) -> Pair {
         let re = product(entry.re, point.re) - product(entry.im, point.im);
         let im = product(entry.re, point.im) + product(entry.im, point.re);
-        Pair { re: self.re - re, im: self.im - im }
+        Pair {
+            re: self.re - re,
+            im: self.im - im,
+        }
     }
 
     fn amount(self, gain: u32, point: Pair) -> u64 {

@@ -12,6 +12,7 @@ pub struct Whole {
 
 pub impl Kind for Whole as WholeKind {
     const LEVELS: usize = 8;
+
     const PARTS: usize = 1;
 
     ghost shape = { wholeShape };
@@ -32,7 +33,9 @@ pub impl Kind for Whole as WholeKind {
     }
 
     fn read(words: &[i32], index: usize) -> Whole {
-        Whole { value: words[index] }
+        Whole {
+            value: words[index],
+        }
     }
 
     fn real(self) -> i32 {
@@ -44,7 +47,9 @@ pub impl Kind for Whole as WholeKind {
     }
 
     fn minus_product(self, entry: Whole, point: Whole) -> Whole {
-        Whole { value: self.value - product(entry.value, point.value) }
+        Whole {
+            value: self.value - product(entry.value, point.value),
+        }
     }
 
     fn amount(self, gain: u32, point: Whole) -> u64 {

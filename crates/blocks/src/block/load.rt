@@ -32,7 +32,13 @@ fn is_outside_gain(word: i32) -> bool
 }
 
 // The words of `count` places from `place` on, rounded; or the first place whose word is outside -limit to limit - 1.
-fn read_words(words: &[i32], bits: ExtraBits, place: usize, count: usize, limit: u16) -> Result<[i32; 8], usize>
+fn read_words(
+    words: &[i32],
+    bits: ExtraBits,
+    place: usize,
+    count: usize,
+    limit: u16,
+) -> Result<[i32; 8], usize>
     requires few { ⌜ count ≤ 8 ⌝ }
     requires there { ⌜ place + count ≤ length (now words) ⌝ }
     ensures { λ r. ⌜ Cases r (λ read. ReadOut limit count place (map (rounded (bits .count)) (now (words .entry))) read) (λ p. first-outside limit count place (map (rounded (bits .count)) (now (words .entry))) ≡ Some p) ⌝ }
@@ -49,7 +55,12 @@ fn read_words(words: &[i32], bits: ExtraBits, place: usize, count: usize, limit:
 }
 
 // The row whose diagonal word is at `place`, with `others` words right of it.
-fn read_row(words: &[i32], bits: ExtraBits, place: usize, others: usize) -> Result<ChannelRow, LoadFault>
+fn read_row(
+    words: &[i32],
+    bits: ExtraBits,
+    place: usize,
+    others: usize,
+) -> Result<ChannelRow, LoadFault>
     requires few { ⌜ others ≤ 8 ⌝ }
     requires there { ⌜ place + 1 + others ≤ length (now words) ⌝ }
     ensures { λ r. ⌜ Cases r (λ row. RowRead others place (map (rounded (bits .count)) (now (words .entry))) row) (λ f. row-fault others place (map (rounded (bits .count)) (now (words .entry))) ≡ Some f) ⌝ }
@@ -59,7 +70,10 @@ fn read_row(words: &[i32], bits: ExtraBits, place: usize, others: usize) -> Resu
         return Err(LoadFault::Diagonal { word: place });
     }
     match read_words(words, bits, place + 1, others, 2048) {
-        Ok(words) => Ok(ChannelRow { gain: gain as u32, words }),
+        Ok(words) => Ok(ChannelRow {
+            gain: gain as u32,
+            words,
+        }),
         Err(word) => Err(LoadFault::Part { word }),
     }
 }
@@ -70,7 +84,10 @@ fn read_channel<K: Kind>(words: &[i32], bits: ExtraBits) -> Result<[ChannelRow; 
     ensures rows { λ r. ⌜ mapped (matrix-of shape (levels shape)) (λ f. f) r ≡ answer (channel-fault shape (levels shape) 0 (map (rounded (bits .count)) (now (words .entry)))) (rowsOf shape (levels shape) 0 (map (rounded (bits .count)) (now (words .entry)))) ⌝ }
     ensures eight { λ r. ⌜ Cases r (λ rs. length rs ≡ 8) (λ _. ⊥ → ⊥) ⌝ }
 {
-    let mut rows = [ChannelRow { gain: 0, words: [0; 8] }; 8];
+    let mut rows = [ChannelRow {
+        gain: 0,
+        words: [0; 8],
+    }; 8];
     let mut place = 0;
     let levels = K::level_count();
     let parts = K::part_count();
@@ -84,7 +101,11 @@ fn read_channel<K: Kind>(words: &[i32], bits: ExtraBits) -> Result<[ChannelRow; 
 
 impl Block {
     // The block of these raw words, each with so many extra bits, for points of the kind K.
-    pub fn load<K: Kind>(extra_bits: u8, channel: &[i32], received: &[i32]) -> Result<Block, LoadFault>
+    pub fn load<K: Kind>(
+        extra_bits: u8,
+        channel: &[i32],
+        received: &[i32],
+    ) -> Result<Block, LoadFault>
         ensures { λ r. ⌜ mapped (block-of shape) (λ f. f) r ≡ load-answer shape «extra_bits» (now (channel .entry)) (now (received .entry)) ⌝ }
     {
         let bits = ExtraBits::new(extra_bits)?;

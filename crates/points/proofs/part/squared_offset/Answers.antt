@@ -24,5 +24,5 @@ returns c =
     let value = ap (λ (n : ℕ). n * n) offset in
     record {
       value = value ∙ ap (λ (z : ℤ). natAbs (u -ℤ z) * natAbs (u -ℤ z)) is-product;
-      bound = omega (arith, value, square-reach (u -ℤ p) 1079296 reach)
+      bound = omega (arith, value, square-reach (u -ℤ p) 1079296 reach);
     }

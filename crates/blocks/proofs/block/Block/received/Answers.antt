@@ -13,5 +13,5 @@ returns g c =
     let z : parts sh * k ≡ 0 + parts sh * k = omega arith in
     record {
       value = c .read .ensures ∙ ap (value-at sh ws) z ∙ sym (value-of-many sh (levels sh) 0 k ws (c .pre));
-      near = subst (Within 32768) (sym (c .read .ensures)) (value-near sh 32768 ws (parts sh * k) (c .args .self .now .near))
+      near = subst (Within 32768) (sym (c .read .ensures)) (value-near sh 32768 ws (parts sh * k) (c .args .self .now .near));
     }

@@ -16,5 +16,5 @@ returns g c =
     let next : suc k ≡ k + 1 = omega arith in
     record {
       value = λ n h. c .read .ensures ∙ ap (value-at sh (row .words)) z ∙ sym (value-of-many sh n 0 k (row .words) h) ∙ ap (λ (j : ℕ). getD (row-of sh n row) j origin) next;
-      near = subst (Within 2048) (sym (c .read .ensures)) (value-near sh 2048 (row .words) (parts sh * k) (row .near))
+      near = subst (Within 2048) (sym (c .read .ensures)) (value-near sh 2048 (row .words) (parts sh * k) (row .near));
     }

@@ -24,12 +24,13 @@ pub loop-level-holds : need.loop-level-holds
 loop-level-holds g c =
     let sh = g .K·Kind .shape in
     let ws = map (rounded (c .args .bits .count)) (c .args .words .now) in
-    let all : levels sh ≡ levels sh - 0 = omega arith in
-    ( ap (λ (k : ℕ). channel-fault sh k 0 ws) all
-    , ap (λ (k : ℕ). rows sh k 0 ws) all
-    , (λ d. below-none _)
-    , omega (arith, ap (read.row-words sh) (sym all), read.all-words sh, c .pre)
-    , refl )
+    let all : levels sh ≡ levels sh - 0 = omega arith in (
+      ap (λ (k : ℕ). channel-fault sh k 0 ws) all,
+      ap (λ (k : ℕ). rows sh k 0 ws) all,
+      (λ d. below-none _),
+      omega (arith, ap (read.row-words sh) (sym all), read.all-words sh, c .pre),
+      refl,
+    )
 
 pub mul-others : need.mul-others
 mul-others g c =
@@ -66,12 +67,13 @@ loop-level-again g c =
     let got = c .in-Continue-rows .ensures tt in
     let m = rows sh n 0 ws in
     let step = read.rows-step sh n k i others ws more o m (read.length-rows sh n 0 ws) (inv .1) in
-    let room : k < length rs = omega (arith, read.levels-few sh, inv .4) in
-    ( inv .0 ∙ read.fault-later sh n k i others ws more o (got .inside)
-    , step .1
-    , read.rows-kept sh n k i others ws more o m rs r got (step .0) room (inv .2)
-    , omega (arith, read.words-left sh n k i others ws more o, inv .3)
-    , length-set rs k r ∙ inv .4 )
+    let room : k < length rs = omega (arith, read.levels-few sh, inv .4) in (
+      inv .0 ∙ read.fault-later sh n k i others ws more o (got .inside),
+      step .1,
+      read.rows-kept sh n k i others ws more o m rs r got (step .0) room (inv .2),
+      omega (arith, read.words-left sh n k i others ws more o, inv .3),
+      length-set rs k r ∙ inv .4,
+    )
 
 pub returns : need.returns
 returns g c =
@@ -84,7 +86,7 @@ returns g c =
     let built = read.matrix-built sh n (c .loop-level .rows) (rows sh n 0 ws) (read.length-rows sh n 0 ws) (omega (arith, read.levels-few sh, inv .4)) (λ d j h. inv .2 d j (omega arith)) in
     record {
       rows = rw passes (ap Ok built);
-      eight = inv .4
+      eight = inv .4;
     }
 
 pub returns-in-Break-rows : need.returns-in-Break-rows
@@ -101,5 +103,5 @@ returns-in-Break-rows g c =
     let p = err-from-errBy (c .from-residual .result) (c .from-residual .ensures .1) in
     record {
       rows = rw (p .1, p .2, fault) refl;
-      eight = rw (p .1) (λ b. b)
+      eight = rw (p .1) (λ b. b);
     }

@@ -37,7 +37,7 @@ returns-in-Ok c =
     record {
       inside = row-passes (c .args .others) (c .args .place) (map (rounded e) raw) (ap outside-gain (sym fresh) ∙ inside) (read .inside);
       gain = simp toZ-ofZ (gain-reach w inside .0 ∙ fresh);
-      same = read .same
+      same = read .same;
     }
 
 pub returns-in-Err : need.returns-in-Err

@@ -15,11 +15,12 @@ use Rattle.blocks.proofs.Limits.{none-yet, within-zeros, inside-near, within-s
 use Rattle.blocks.proofs.block.load.read_words.Needs as need
 
 pub loop-k-holds : need.loop-k-holds
-loop-k-holds c =
-    ( none-yet (c .args .limit) (c .args .count) (c .args .place) (map (rounded (c .args .bits .count)) (c .args .words .now))
-    , (λ j h. let bad : ⊥ = omega arith in absurd bad)
-    , within-zeros (c .args .limit)
-    , refl )
+loop-k-holds c = (
+  none-yet (c .args .limit) (c .args .count) (c .args .place) (map (rounded (c .args .bits .count)) (c .args .words .now)),
+  (λ j h. let bad : ⊥ = omega arith in absurd bad),
+  within-zeros (c .args .limit),
+  refl,
+)
 
 pub loop-k-again : need.loop-k-again
 loop-k-again c =
@@ -35,11 +36,12 @@ loop-k-again c =
     let fresh = rounded-at (c .args .bits .count) raw (i + k) w (omega (arith, c .pre .there, c .loop-k-test .taken)) fr (c .round-word .ensures) in
     let room : k < length (c .loop-k .read) = omega (arith, inv .3, c .pre .few, c .loop-k-test .taken) in
     let inside : outside b w ≡ false = simp toZ-ofZ at (sym (c .if-is-outside .ensures tt)) in
-    simp toZ-ofZ
-    ( turn-goes-on b (c .args .count) i k ws (c .loop-k .read) w (c .loop-k-test .taken) fresh (inv .0) inside
-    , turn-keeps b (c .args .count) i k ws (c .loop-k .read) w (c .loop-k-test .taken) fresh (inv .0) room (inv .1)
-    , within-set b (c .loop-k .read) k w (inside-near b w inside) (inv .2)
-    , length-set (c .loop-k .read) k w ∙ inv .3 )
+    simp toZ-ofZ (
+      turn-goes-on b (c .args .count) i k ws (c .loop-k .read) w (c .loop-k-test .taken) fresh (inv .0) inside,
+      turn-keeps b (c .args .count) i k ws (c .loop-k .read) w (c .loop-k-test .taken) fresh (inv .0) room (inv .1),
+      within-set b (c .loop-k .read) k w (inside-near b w inside) (inv .2),
+      length-set (c .loop-k .read) k w ∙ inv .3,
+    )
 
 pub returns-then-is-outside : need.returns-then-is-outside
 returns-then-is-outside c =
@@ -63,5 +65,5 @@ returns c =
       inside = c .loop-k .inv .0 ∙ ap (λ (m : ℕ). first-outside (c .args .limit) m (c .args .place + c .loop-k .k) ws) none;
       same = λ k h. c .loop-k .inv .1 k (omega arith);
       near = c .loop-k .inv .2;
-      eight = c .loop-k .inv .3
+      eight = c .loop-k .inv .3;
     }

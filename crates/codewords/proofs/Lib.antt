@@ -1,0 +1,5 @@
+pub mod Numbering
+pub mod Least
+pub mod Targets
+pub mod Bounds
+pub mod Sums
