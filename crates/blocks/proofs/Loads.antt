@@ -1,22 +1,20 @@
 -- A load that passes every check answers the system of its rounded words.
-use mathlib.Core.Path.{_≡_, refl, sym, ap, ap₂, _∙_}
-use mathlib.Core.Bool.{Bool, true, false, not}
+use mathlib.Core.Path.{_≡_, refl, ap, _∙_}
 use mathlib.Core.List.{List, map}
 use Prim.Native.Nat.{ℕ, _+_, _*_, _≤_, _<_}
 use native.Mathlib.Omega.{arith}
-use lib.Dec.{ltb, eqb}
 use lib.IntN.{ℤ, pos}
 use lib.ListN.{length, getD}
 use Rattle.std.proofs.shelf.Tests.{le-ltb, eq-eqb}
 use Rattle.std.proofs.shelf.Ways.{tells}
 use Rattle.std.specs.declared.option.Option.{Option}
 use Rattle.std.specs.declared.option.Option.the-variants.{Some, None}
-use Rattle.std.specs.declared.result.Result.the-variants.{Ok, Err}
+use Rattle.std.specs.declared.result.Result.the-variants.{Ok}
 use Rattle.faults.specs.declared.load.LoadFault.{LoadFault}
 use Rattle.points.specs.Points.{Gaussian, Shape, whole, pair, levels, parts}
 use Rattle.blocks.specs.Rounding.{rounded, bits-answer}
-use Rattle.blocks.specs.Words.{ReadOut}
-use Rattle.blocks.specs.Systems.{System, rows, values}
+use Rattle.blocks.specs.Reading.{WordsRead}
+use Rattle.blocks.specs.Systems.{rows, values}
 use Rattle.blocks.specs.Refusals.{channel-count, channel-fault, answer, load-answer}
 use Rattle.blocks.proofs.Rows.{values-same}
 
@@ -34,7 +32,7 @@ all-received pair k h = h
 module _ (sh : Shape) (e : ℕ) (cs zs : List ℤ) where
   pub loaded : (m : List (List Gaussian)) (read : List ℤ) → e ≤ 8 → length cs ≡ channel-count sh → length zs ≡ 8
       → Ok m ≡ answer (channel-fault sh (levels sh) 0 (map (rounded e) cs)) (rows sh (levels sh) 0 (map (rounded e) cs))
-      → ReadOut 32768 8 0 (map (rounded e) zs) read
+      → WordsRead 32768 8 0 (map (rounded e) zs) read
       → Ok (record { matrix = m; received = values sh (levels sh) 0 read }) ≡ load-answer sh e cs zs
   loaded m read few channel received passes got =
       let p = answered (channel-fault sh (levels sh) 0 (map (rounded e) cs)) (rows sh (levels sh) 0 (map (rounded e) cs)) m passes in

@@ -1,7 +1,7 @@
 -- Rows read one after another.
 use mathlib.Core.Path.{_≡_, refl, sym, ap, ap₂, subst, _∙_}
-use mathlib.Core.Bool.{Bool, true, false, not, _||_}
-use mathlib.Core.List.{List, [], _∷_, map}
+use mathlib.Core.Bool.{true, false}
+use mathlib.Core.List.{List, [], _∷_}
 use Prim.Native.Nat.{ℕ, zero, suc, _+_, _-_, _*_, _≤_, _<_}
 use native.Mathlib.Omega.{arith}
 use lib.IntN.{ℤ, pos, negsuc, natAbs}
@@ -9,7 +9,6 @@ use borrow.Author.Count.{below-more}
 use lib.ListN.{length, getD, set, drop}
 use lib.Seq.{getD-set-same, getD-set-other}
 use mathlib.Core.Logic.{_≢_}
-use lib.Signed.{ltZ}
 use Rattle.std.proofs.shelf.Lists.{drop-more}
 use Rattle.std.proofs.shelf.Tests.{both-ways}
 use Rattle.std.proofs.shelf.Ways.{tells}
@@ -22,7 +21,8 @@ use Rattle.blocks.specs.Words.{first-outside, all-within}
 use Rattle.blocks.specs.Systems.{values, rows}
 use Rattle.blocks.proofs.Limits.{within-at}
 use Rattle.blocks.specs.declared.block.ChannelRow.{ChannelRow}
-use Rattle.blocks.specs.Blocks.{row-of, matrix-of, RowRead}
+use Rattle.blocks.specs.Blocks.{row-of, matrix-of}
+use Rattle.blocks.specs.Reading.{RowRead}
 use Rattle.blocks.specs.Refusals.{outside-gain, row-fault, channel-count, channel-fault, or-else}
 
 -- what one row's reading finds

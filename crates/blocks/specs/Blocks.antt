@@ -3,18 +3,13 @@
 --   row-of sh k r           the row r, with k values right of the diagonal
 --   matrix-of sh n rs       the first n rows; the first of them has n − 1 values right of the diagonal
 --   block-of sh b           the block b, read as a block of points of the shape sh
---   RowRead n i ws r        r holds the row whose diagonal word is at place i and which has n other words
-use mathlib.Core.Path.{_≡_}
 use mathlib.Core.List.{List, [], _∷_}
-use Prim.Native.Nat.{ℕ, zero, suc, _+_, _<_}
-use lib.IntN.{ℤ, pos}
-use lib.ListN.{getD}
-use Rattle.std.specs.declared.option.Option.the-variants.{None}
+use Prim.Native.Nat.{ℕ, zero, suc}
+use lib.IntN.{pos}
 use Rattle.points.specs.Points.{Gaussian, real, Shape, levels}
 use Rattle.blocks.specs.declared.block.ChannelRow.{ChannelRow}
 use Rattle.blocks.specs.declared.block.Block.{Block}
 use Rattle.blocks.specs.Systems.{System, values}
-use Rattle.blocks.specs.Refusals.{row-fault}
 
 abbrev pub row-of : Shape → ℕ → ChannelRow → List Gaussian
 row-of sh k r = real (pos (r .gain)) ∷ values sh k 0 (r .words)
@@ -26,8 +21,3 @@ matrix-of sh (suc k) (r ∷ rs) = row-of sh k r ∷ matrix-of sh k rs
 
 abbrev pub block-of : Shape → Block → System
 block-of sh b = record { matrix = matrix-of sh (levels sh) (b .rows); received = values sh (levels sh) 0 (b .received) }
-
-pub record RowRead (n i : ℕ) (ws : List ℤ) (r : ChannelRow) : Type 0 where
-  pub inside : row-fault n i ws ≡ None
-  pub gain : pos (r .gain) ≡ getD ws i (pos 0)
-  pub same : (k : ℕ) → k < n → getD (r .words) k (pos 0) ≡ getD ws (i + 1 + k) (pos 0)

@@ -3,3 +3,4 @@ pub mod Words
 pub mod Systems
 pub mod Refusals
 pub mod Blocks
+pub mod Reading

@@ -3,13 +3,12 @@
 --   outside b w                 w is not within −b to b − 1
 --   first-outside b n i ws      the first place outside, of n places from i on
 --   all-within b ws             no word is larger than b, whatever its sign
-use mathlib.Core.Path.{_≡_}
 use mathlib.Core.Bool.{Bool, true, cond, _&&_, _||_}
 use mathlib.Core.List.{List, [], _∷_}
-use Prim.Native.Nat.{ℕ, zero, suc, _+_, _<_}
+use Prim.Native.Nat.{ℕ, zero, suc, _+_}
 use lib.Dec.{leb}
 use lib.IntN.{ℤ, pos, negℤ, natAbs}
-use lib.ListN.{length, getD}
+use lib.ListN.{getD}
 use lib.Signed.{ltZ, leZ}
 use Rattle.std.specs.declared.option.Option.{Option}
 use Rattle.std.specs.declared.option.Option.the-variants.{Some, None}
@@ -24,10 +23,3 @@ first-outside b (suc n) i ws = cond (outside b (getD ws i (pos 0))) (Some i) (fi
 abbrev pub all-within : ℕ → List ℤ → Bool
 all-within b [] = true
 all-within b (w ∷ ws) = leb (natAbs w) b && all-within b ws
-
--- read holds the n words from place i on, none of them outside
-pub record ReadOut (b n i : ℕ) (ws read : List ℤ) : Type 0 where
-  pub inside : first-outside b n i ws ≡ None
-  pub same : (k : ℕ) → k < n → getD read k (pos 0) ≡ getD ws (i + k) (pos 0)
-  pub near : all-within b read ≡ true
-  pub eight : length read ≡ 8

@@ -1,6 +1,6 @@
 // Rounding: raw words carry up to 8 extra bits.
 ghost use mathlib.Core.Path.{_≡_};
-ghost use Prim.Native.Nat.{ℕ, _<_, _≤_, _-_, _^_};
+ghost use Prim.Native.Nat.{_<_, _≤_, _-_, _^_};
 ghost use lib.IntN.{pos};
 ghost use Rattle.std.specs.Results.{mapped};
 ghost use Rattle.blocks.specs.Rounding.{down, rounded, bits-answer};

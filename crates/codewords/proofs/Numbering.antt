@@ -1,15 +1,14 @@
 -- Codewords by number: each has one, and the order is that of the numbers.
-use mathlib.Core.Path.{_≡_, refl, sym, ap, ap₂, subst, _∙_}
+use mathlib.Core.Path.{_≡_, refl, sym, ap, ap₂, _∙_}
 use mathlib.Core.List.{List, [], _∷_, _++_, append-assoc, append-nil}
-use mathlib.Core.Logic.{_⊎_, inl, inr, ⊎-elim}
+use mathlib.Core.Logic.{inl, inr, ⊎-elim}
 use Prim.Native.Nat.{ℕ, zero, suc, _+_, _-_, _*_, _/_, _%_, _^_, _≤_, _<_}
 use native.Mathlib.Omega.{arith}
 use native.Mathlib.Nat.{pow-suc, pow-succ', pow-zero, add-mul}
-use lib.ListN.{length, getD, take, set}
+use lib.ListN.{length, take, set}
 use lib.Seq.{take-suc-set}
 use Rattle.std.proofs.shelf.Bits.{div-add-mod', div-below, mod-below, div-mul-add, mod-mul-add, mul-le, mul-add-lt}
 use Rattle.std.proofs.shelf.Tests.{cases-order}
-use Rattle.std.specs.shelf.Lists.{All}
 use Rattle.codewords.specs.Codewords.{IsCodeword, Earlier}
 use Rattle.codewords.specs.Numbers.{numbered}
 

@@ -1,7 +1,7 @@
 -- The distance, one level after another.
 use mathlib.Core.Path.{_≡_, refl, sym, ap, ap₂, subst, _∙_}
 use mathlib.Core.List.{List, [], _∷_}
-use Prim.Native.Nat.{ℕ, zero, suc, _+_, _-_, _*_, _<_, _≤_}
+use Prim.Native.Nat.{ℕ, zero, suc, _+_, _-_, _<_, _≤_}
 use native.Mathlib.Omega.{arith}
 use lib.IntN.{ℤ, pos, _+ℤ_, _-ℤ_, _*ℤ_, zero-*ℤ}
 use lib.ListN.{length, getD, drop}
@@ -13,7 +13,7 @@ use Rattle.blocks.specs.declared.block.ChannelRow.{ChannelRow}
 use Rattle.blocks.specs.Blocks.{row-of, matrix-of, block-of}
 use Rattle.blocks.proofs.Rows.{levels-few}
 use Rattle.codewords.specs.Distances.{dot, distance}
-use Rattle.codewords.specs.Codewords.{spelled, word-distance}
+use Rattle.codewords.specs.Codewords.{spelled, word-distance, target-of}
 use Rattle.codewords.proofs.Targets.{length-values, length-spelled, spelled-at}
 
 -- the diagonal's product, as a gain
@@ -59,7 +59,7 @@ length-matrix sh (suc k) (r ∷ rs) h = ap suc (length-matrix sh k rs (omega (ar
 -- one turn of the sum over the levels
 module _ (sh : Shape) (b : Block) (pts : List Gaussian) (w : List ℕ) (l : ℕ) (whole : length w ≡ levels sh) (more : l < length w) where
   pub turn : (sum a g : ℕ) (u s : Gaussian) (row : ChannelRow)
-      → u ≡ minus (getD (block-of sh b .received) l origin) (dot (drop 1 (getD (block-of sh b .matrix) l [])) (spelled pts (drop (l + 1) w)))
+      → u ≡ target-of (block-of sh b) pts l (drop (l + 1) w)
       → row-of sh (levels sh - 1 - l) row ≡ getD (block-of sh b .matrix) l []
       → ((n : ℕ) → real (pos g) ≡ getD (row-of sh n row) 0 origin)
       → s ≡ getD pts (getD w l 0) origin

@@ -3,6 +3,7 @@
 --   IsCodeword m n w      w has n indices, each below the alphabet's size m; is-codeword tests it
 --   spelled pts w         the points of w
 --   word-distance b pts w   the distance of w in the block b
+--   target-of b pts l is    the target of level l, counted from 0: z_l less the r_lj·s_j of the levels above, whose indices are `is`
 --   Earlier v w           v comes before w: of the highest level at which they differ, v has the smaller index
 use mathlib.Core.Path.{_≡_}
 use mathlib.Core.Bool.{Bool, true, _&&_}
@@ -10,11 +11,11 @@ use mathlib.Core.List.{List, [], _∷_, map}
 use mathlib.Core.Logic.{_⊎_}
 use Prim.Native.Nat.{ℕ, _<_}
 use lib.Dec.{eqb, ltb}
-use lib.ListN.{length, getD}
+use lib.ListN.{length, getD, drop}
 use Rattle.std.specs.shelf.Lists.{All}
-use Rattle.points.specs.Points.{Gaussian, origin}
+use Rattle.points.specs.Points.{Gaussian, origin, minus}
 use Rattle.blocks.specs.Systems.{System}
-use Rattle.codewords.specs.Distances.{distance}
+use Rattle.codewords.specs.Distances.{dot, distance}
 
 abbrev pub IsCodeword : ℕ → ℕ → List ℕ → Type 0
 IsCodeword m n w = (length w ≡ n) × All (λ i. i < m) w
@@ -31,6 +32,9 @@ spelled pts w = map (λ i. getD pts i origin) w
 
 abbrev pub word-distance : System → List Gaussian → List ℕ → ℕ
 word-distance b pts w = distance (b .matrix) (b .received) (spelled pts w)
+
+abbrev pub target-of : System → List Gaussian → ℕ → List ℕ → Gaussian
+target-of b pts l is = minus (getD (b .received) l origin) (dot (drop 1 (getD (b .matrix) l [])) (spelled pts is))
 
 abbrev pub Earlier : List ℕ → List ℕ → Type 0
 Earlier [] w = ⊥

@@ -1,13 +1,11 @@
 // The distance of a codeword, level by level.
 ghost use mathlib.Core.Path.{_≡_};
-ghost use mathlib.Core.List.{[]};
-ghost use Prim.Native.Nat.{ℕ, _+_, _-_, _≤_, _<_, _^_};
-ghost use lib.ListN.{length, getD, drop};
+ghost use Prim.Native.Nat.{_+_, _≤_, _<_, _^_};
+ghost use lib.ListN.{length};
 ghost use Rattle.std.specs.Options.{Cases as BySome, whenTrue};
-ghost use Rattle.points.specs.Points.{Within, origin, minus, levels};
+ghost use Rattle.points.specs.Points.{Within, levels};
 ghost use Rattle.blocks.specs.Blocks.{block-of};
-ghost use Rattle.codewords.specs.Distances.{dot};
-ghost use Rattle.codewords.specs.Codewords.{all-below, is-codeword, spelled, word-distance};
+ghost use Rattle.codewords.specs.Codewords.{all-below, is-codeword, word-distance, target-of};
 use alphabets::alphabet::Alphabet;
 use alphabets::alphabet::point_or_origin;
 use blocks::block::Block;
@@ -16,7 +14,7 @@ use points::kind::Kind;
 // The target of a level, counted from 0: z_l less the r_lj·s_j of the levels above, whose indices are given from the next level on.
 pub fn target<B: Alphabet>(alphabet: &B, block: &Block, level: usize, above: &[usize]) -> B::Point
     requires { ⌜ level + 1 + length (now above) ≤ levels (Point·Kind .shape) ⌝ }
-    ensures value { λ u. ⌜ Point·Kind .meaning u ≡ minus (getD (block-of (Point·Kind .shape) (now (block .entry)) .received) level origin) (dot (drop 1 (getD (block-of (Point·Kind .shape) (now (block .entry)) .matrix) level [])) (spelled (points (now (alphabet .entry))) (now (above .entry)))) ⌝ }
+    ensures value { λ u. ⌜ Point·Kind .meaning u ≡ target-of (block-of (Point·Kind .shape) (now (block .entry))) (points (now (alphabet .entry))) level (now (above .entry)) ⌝ }
     ensures near { λ u. ⌜ Within 1048576 (Point·Kind .meaning u) ⌝ }
 {
     let row = block.row(level);
@@ -36,9 +34,9 @@ pub(crate) fn word_distance<B: Alphabet>(alphabet: &B, block: &Block, word: &[us
 {
     let mut sum = 0;
     for (level, index) in word.iter().enumerate() {
-        let target = target(alphabet, block, level, &word[level + 1..]);
+        let u = target(alphabet, block, level, &word[level + 1..]);
         let gain = block.row(level).gain();
-        sum += target.amount(gain, point_or_origin(alphabet, *index));
+        sum += u.amount(gain, point_or_origin(alphabet, *index));
     }
     sum
 }

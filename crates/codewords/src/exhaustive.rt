@@ -1,5 +1,4 @@
 // The nearest codeword by looking at every codeword: the reference for the decoders.
-ghost use mathlib.Core.Path.{_≡_};
 ghost use Prim.Native.Nat.{_<_, _^_};
 ghost use lib.ListN.{take};
 ghost use Rattle.points.specs.Points.{levels};

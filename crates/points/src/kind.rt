@@ -1,6 +1,6 @@
 // The kind of a point: what targets and amounts need of it.
 ghost use mathlib.Core.Path.{_≡_};
-ghost use Prim.Native.Nat.{ℕ, _+_, _*_, _≤_, _<_, _^_};
+ghost use Prim.Native.Nat.{_+_, _*_, _≤_, _<_, _^_};
 ghost use lib.ListN.{length};
 ghost use Rattle.points.specs.Points.{Gaussian, gaussian, minus, times, amount, Within, Shape, project, levels, parts, value-at};
 

@@ -1,5 +1,4 @@
 // Pairs as points, complex numbers with whole parts: blocks of four levels.
-ghost use mathlib.Core.Path.{_≡_};
 ghost use Rattle.points.specs.Points.{gaussian, pair as pairShape};
 use crate::kind::Kind;
 use crate::part::product;

@@ -1,7 +1,7 @@
 // Products and squares of single parts.
 ghost use mathlib.Core.Path.{_≡_};
-ghost use Prim.Native.Nat.{ℕ, _≤_, _<_, _^_};
-ghost use lib.IntN.{ℤ, pos, natAbs, _-ℤ_, _*ℤ_};
+ghost use Prim.Native.Nat.{_≤_, _<_, _^_};
+ghost use lib.IntN.{pos, natAbs, _-ℤ_, _*ℤ_};
 ghost use Rattle.points.specs.Points.{square};
 
 // The product of a part of an entry and a part of a point.

@@ -1,5 +1,4 @@
 // Whole numbers as points: blocks of eight levels.
-ghost use mathlib.Core.Path.{_≡_};
 ghost use Rattle.points.specs.Points.{real as realPoint, whole as wholeShape};
 use crate::kind::Kind;
 use crate::part::product;

@@ -1,22 +1,31 @@
 // Reading a block from raw words.
 ghost use mathlib.Core.Path.{_≡_};
 ghost use mathlib.Core.List.{map};
-ghost use Prim.Native.Nat.{ℕ, _+_, _*_, _≤_, _<_};
-ghost use lib.IntN.{pos};
-ghost use lib.ListN.{length, getD};
+ghost use Prim.Native.Nat.{_+_, _≤_};
+ghost use lib.ListN.{length};
 ghost use Rattle.std.specs.Results.{Cases, mapped};
-ghost use Rattle.std.specs.declared.option.Option.the-variants.{Some, None};
+ghost use Rattle.std.specs.declared.option.Option.the-variants.{Some};
 ghost use Rattle.blocks.specs.Rounding.{rounded};
-ghost use Rattle.blocks.specs.Words.{outside, first-outside, all-within, ReadOut};
+ghost use Rattle.blocks.specs.Words.{outside, first-outside};
 ghost use Rattle.points.specs.Points.{levels};
 ghost use Rattle.blocks.specs.Systems.{rows as rowsOf};
 ghost use Rattle.blocks.specs.Refusals.{outside-gain, row-fault, channel-count, channel-fault, answer, load-answer};
-ghost use Rattle.blocks.specs.Blocks.{RowRead, matrix-of, block-of};
+ghost use Rattle.blocks.specs.Blocks.{matrix-of, block-of};
+ghost use Rattle.blocks.specs.Reading.{WordsRead, RowRead};
 use super::Block;
 use super::ChannelRow;
 use crate::rounding::ExtraBits;
 use faults::load::LoadFault;
 use points::kind::Kind;
+
+// The limits of rounded words: a diagonal entry is at most MOST_GAIN, and a part lies in -limit to limit - 1.
+const MOST_GAIN: i32 = 2047;
+
+const PART_LIMIT: u16 = 2048;
+
+const RECEIVED_LIMIT: u16 = 32768;
+
+const RECEIVED_COUNT: usize = 8;
 
 fn is_outside(word: i32, limit: u16) -> bool
     ensures { λ r. ⌜ r ≡ outside limit word ⌝ }
@@ -28,7 +37,7 @@ fn is_outside(word: i32, limit: u16) -> bool
 fn is_outside_gain(word: i32) -> bool
     ensures { λ r. ⌜ r ≡ outside-gain word ⌝ }
 {
-    word < 0 || word > 2047
+    word < 0 || word > MOST_GAIN
 }
 
 // The words of `count` places from `place` on, rounded; or the first place whose word is outside -limit to limit - 1.
@@ -41,7 +50,7 @@ fn read_words(
 ) -> Result<[i32; 8], usize>
     requires few { ⌜ count ≤ 8 ⌝ }
     requires there { ⌜ place + count ≤ length (now words) ⌝ }
-    ensures { λ r. ⌜ Cases r (λ read. ReadOut limit count place (map (rounded (bits .count)) (now (words .entry))) read) (λ p. first-outside limit count place (map (rounded (bits .count)) (now (words .entry))) ≡ Some p) ⌝ }
+    ensures { λ r. ⌜ Cases r (λ read. WordsRead limit count place (map (rounded (bits .count)) (now (words .entry))) read) (λ p. first-outside limit count place (map (rounded (bits .count)) (now (words .entry))) ≡ Some p) ⌝ }
 {
     let mut read = [0; 8];
     for k in 0..count {
@@ -69,7 +78,7 @@ fn read_row(
     if is_outside_gain(gain) {
         return Err(LoadFault::Diagonal { word: place });
     }
-    match read_words(words, bits, place + 1, others, 2048) {
+    match read_words(words, bits, place + 1, others, PART_LIMIT) {
         Ok(words) => Ok(ChannelRow {
             gain: gain as u32,
             words,
@@ -112,11 +121,11 @@ impl Block {
         if channel.len() != channel_count::<K>() {
             return Err(LoadFault::ChannelCount);
         }
-        if received.len() != 8 {
+        if received.len() != RECEIVED_COUNT {
             return Err(LoadFault::ReceivedCount);
         }
         let rows = read_channel::<K>(channel, bits)?;
-        match read_words(received, bits, 0, 8, 32768) {
+        match read_words(received, bits, 0, RECEIVED_COUNT, RECEIVED_LIMIT) {
             Ok(received) => Ok(Block { rows, received }),
             Err(word) => Err(LoadFault::Received { word }),
         }

@@ -1,15 +1,12 @@
 use native.Mathlib.Omega.{arith}
-use mathlib.Core.Path.{_≡_, refl, sym, ap, _∙_}
-use Prim.Native.Nat.{ℕ, _+_, _-_}
-use lib.ListN.{length, getD, take, drop, length-drop}
-use mathlib.Core.List.{List, []}
+use mathlib.Core.Path.{_≡_, ap, _∙_}
+use Prim.Native.Nat.{_+_, _-_}
+use lib.ListN.{length, take, drop, length-drop}
 use Rattle.std.proofs.shelf.Lists.{take-all}
 use native.Mathlib.Nat.{zero-add}
-use Rattle.points.specs.Points.{origin, minus, levels}
 use Rattle.blocks.specs.Blocks.{block-of}
 use Rattle.blocks.proofs.Rows.{levels-few}
-use Rattle.codewords.specs.Distances.{dot}
-use Rattle.codewords.specs.Codewords.{spelled, word-distance}
+use Rattle.codewords.specs.Codewords.{spelled, word-distance, target-of}
 use Rattle.codewords.proofs.Targets.{length-spelled}
 use Rattle.codewords.proofs.Bounds.{distance-small}
 use Rattle.codewords.proofs.Sums.{no-level, turn}
@@ -30,10 +27,10 @@ loop-level-again g c =
     let w = c .args .word .now in
     let l = c .loop-level .level in
     let part : take (length w - (l + 1)) (drop (l + 1) w) ≡ drop (l + 1) w = take-all (length w - (l + 1)) (drop (l + 1) w) (simp length-drop (omega arith)) in
-    let above = ap (λ (is : List ℕ). minus (getD (b .received) l origin) (dot (drop 1 (getD (b .matrix) l [])) (spelled pts is))) part in (
+    let above = ap (target-of b pts l) part in (
       turn sh (c .args .block .now) pts w l (c .pre) (c .loop-level-test .taken)
-          (c .loop-level .sum) (c .amount-sum .result) (c .gain-gain .result) (m (c .target-target .result)) (m (c .point-or-origin .result)) (c .row .result .now)
-          (c .target-target .ensures .value ∙ above) (c .row .ensures sh (omega (arith, c .pre, c .loop-level-test .taken))) (c .gain-gain .ensures .value sh) (c .point-or-origin .ensures .value) (c .amount-sum .ensures .value) (c .loop-level .inv .0),
+          (c .loop-level .sum) (c .amount-sum .result) (c .gain-gain .result) (m (c .target-u .result)) (m (c .point-or-origin .result)) (c .row .result .now)
+          (c .target-u .ensures .value ∙ above) (c .row .ensures sh (omega (arith, c .pre, c .loop-level-test .taken))) (c .gain-gain .ensures .value sh) (c .point-or-origin .ensures .value) (c .amount-sum .ensures .value) (c .loop-level .inv .0),
       omega (arith, c .loop-level .inv .1, c .amount-sum .ensures .bound),
     )
 

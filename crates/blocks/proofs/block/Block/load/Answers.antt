@@ -1,5 +1,4 @@
-use native.Mathlib.Omega.{arith}
-use mathlib.Core.Path.{_≡_, ap, _∙_}
+use mathlib.Core.Path.{ap, _∙_}
 use Prim.Native.Nat.{ℕ}
 use Rattle.points.specs.Points.{levels}
 use Rattle.blocks.specs.Refusals.{load-answer}
@@ -16,7 +15,7 @@ returns-in-Ok g c =
     let m = matrix-of sh (levels sh) (c .in-Continue-rows .rows) in
     loaded sh (bits .count) cs zs m (c .in-Ok .received) (bits .few)
     (c .if-channel-channel-count .left ∙ c .channel-count .ensures)
-    (c .if-received-ne8 .left)
+    (c .if-received-ne-RECEIVED-COUNT .left)
     (c .in-Continue-rows .ensures tt .rows)
     (c .in-Ok .ensures tt)
     ∙ ap (λ (e : ℕ). load-answer sh e cs zs) (bits-are (c .args .extra-bits) (bits .count) (c .in-Continue-bits .ensures tt))

@@ -1,18 +1,15 @@
 use native.Mathlib.Omega.{arith}
-use mathlib.Core.Path.{_≡_, refl, sym, ap, ap₂, subst, _∙_}
-use mathlib.Core.List.{List, [], map}
-use Prim.Native.Nat.{ℕ, _+_, _-_, _*_, _<_, _≤_}
-use lib.ListN.{length, drop, length-set}
-use mir.Syntax.{w64}
-use mir.Val.{Fits}
+use mathlib.Core.Path.{_≡_, refl, sym, ap, ap₂, _∙_}
+use mathlib.Core.List.{map}
+use Prim.Native.Nat.{ℕ, _-_, _*_, _<_}
+use lib.ListN.{length, length-set}
 use borrow.Author.Count.{below-none}
 use Rattle.std.proofs.shelf.Results.{err-from-errBy}
-use Rattle.std.specs.declared.option.Option.the-variants.{None}
 use Rattle.std.specs.declared.result.Result.the-variants.{Ok}
-use Rattle.points.specs.Points.{Gaussian, levels, parts}
+use Rattle.points.specs.Points.{levels}
 use Rattle.blocks.specs.Rounding.{rounded}
 use Rattle.blocks.specs.Systems.{rows}
-use Rattle.blocks.specs.Refusals.{channel-fault, answer}
+use Rattle.blocks.specs.Refusals.{channel-fault}
 use Rattle.blocks.proofs.Rows as read
 use Rattle.blocks.proofs.block.load.read_channel.Needs as need
 

@@ -6,7 +6,7 @@ use mir.Syntax.{w32, w64}
 use mir.Val.{SFits, toZ, ofZ}
 use borrow.Author.Needs.{needs}
 use Rattle.std.proofs.shelf.Signed.{toZ-ofZ}
-use Rattle.blocks.specs.Rounding.{down, rounded}
+use Rattle.blocks.specs.Rounding.{down}
 use Rattle.blocks.proofs.Rounds.{rounded-is, rounded-fits, sum-held}
 use Rattle.blocks.proofs.rounding.ExtraBits.round.Needs as need
 

@@ -1,6 +1,6 @@
 use native.Mathlib.Omega.{arith}
-use mathlib.Core.Path.{_≡_, sym, _∙_, ap}
-use lib.IntN.{ℤ, pos, _-ℤ_, _+ℤ_, _*ℤ_}
+use mathlib.Core.Path.{_≡_, _∙_, ap}
+use lib.IntN.{ℤ, _-ℤ_, _*ℤ_}
 use mir.Syntax.{w32}
 use mir.Val.{SFits, toZ, ofZ}
 use borrow.Author.Needs.{needs}
