@@ -1,6 +1,7 @@
 -- Codewords: one point of the alphabet for each level, by its index, s_1 first.
 --
 --   IsCodeword m n w      w has n indices, each below the alphabet's size m; is-codeword tests it
+--   word-of c             the indices that a value of the type Codeword holds
 --   spelled pts w         the points of w
 --   word-distance b pts w   the distance of w in the block b
 --   target-of b pts l is    the target of level l, counted from 0: z_l less the r_lj·s_j of the levels above, whose indices are `is`
@@ -11,10 +12,11 @@ use mathlib.Core.List.{List, [], _∷_, map}
 use mathlib.Core.Logic.{_⊎_}
 use Prim.Native.Nat.{ℕ, _<_}
 use lib.Dec.{eqb, ltb}
-use lib.ListN.{length, getD, drop}
+use lib.ListN.{length, getD, take, drop}
 use Rattle.std.specs.shelf.Lists.{All}
 use Rattle.points.specs.Points.{Gaussian, origin, minus}
 use Rattle.blocks.specs.Systems.{System}
+use Rattle.codewords.specs.declared.codeword.Codeword.{Codeword}
 use Rattle.codewords.specs.Distances.{dot, distance}
 
 abbrev pub IsCodeword : ℕ → ℕ → List ℕ → Type 0
@@ -26,6 +28,9 @@ all-below m (i ∷ w) = ltb i m && all-below m w
 
 abbrev pub is-codeword : ℕ → ℕ → List ℕ → Bool
 is-codeword m n w = eqb (length w) n && all-below m w
+
+abbrev pub word-of : Codeword → List ℕ
+word-of c = take (c .levels) (c .indices)
 
 abbrev pub spelled : List Gaussian → List ℕ → List Gaussian
 spelled pts w = map (λ i. getD pts i origin) w

@@ -1,8 +1,8 @@
 // The nearest codeword by looking at every codeword: the reference for the decoders.
 ghost use Prim.Native.Nat.{_<_, _^_};
-ghost use lib.ListN.{take};
 ghost use Rattle.points.specs.Points.{levels};
 ghost use Rattle.blocks.specs.Blocks.{block-of};
+ghost use Rattle.codewords.specs.Codewords.{word-of};
 ghost use Rattle.codewords.specs.Nearest.{Nearest};
 use crate::codeword::Codeword;
 use crate::distance::word_distance;
@@ -18,7 +18,7 @@ pub struct Decision {
 
 // The nearest codeword, the earlier one among equals.
 pub fn nearest<B: Alphabet>(alphabet: &B, block: &Block) -> Decision
-    ensures nearest { λ r. ⌜ Nearest (block-of (Point·Kind .shape) (now (block .entry))) (points (now (alphabet .entry))) (levels (Point·Kind .shape)) (take (r .codeword .levels) (r .codeword .indices)) (r .distance) ⌝ }
+    ensures nearest { λ r. ⌜ Nearest (block-of (Point·Kind .shape) (now (block .entry))) (points (now (alphabet .entry))) (levels (Point·Kind .shape)) (word-of (r .codeword)) (r .distance) ⌝ }
     ensures bound { λ r. ⌜ r .distance < 2 ^ 40 ⌝ }
 {
     let size = alphabet.size();

@@ -1,9 +1,9 @@
 use mathlib.Core.Path.{_≡_}
 use Prim.Native.Nat.{ℕ}
-use lib.ListN.{length, take}
+use lib.ListN.{length}
 use Rattle.points.specs.Points.{levels}
 use Rattle.blocks.specs.Blocks.{block-of}
-use Rattle.codewords.specs.Codewords.{word-distance}
+use Rattle.codewords.specs.Codewords.{word-of, word-distance}
 use Rattle.codewords.specs.Numbers.{numbered}
 use Rattle.codewords.proofs.Least.{Least}
 use Rattle.codewords.proofs.exhaustive.nearest.Given as given
@@ -15,6 +15,6 @@ Inv-loop-number g l =
     let pts = g .B·Alphabet .points (l .alphabet) in
     let at = λ (x : ℕ). word-distance (block-of sh (l .block)) pts (numbered (length pts) (levels sh) x) in
     (x : ℕ)
-    × (take (l .best .levels) (l .best .indices) ≡ numbered (length pts) (levels sh) x)
+    × (word-of (l .best) ≡ numbered (length pts) (levels sh) x)
     × (l .least ≡ at x)
     × Least at (l .number) x
