@@ -1,7 +1,7 @@
 -- Words read one after another, each within its limit.
 use mathlib.Core.Path.{_≡_, refl, sym, ap, _∙_}
 use mathlib.Core.Bool.{true, false}
-use mathlib.Core.List.{List, [], _∷_, map}
+use mathlib.Core.List.{List, [], _∷_}
 use Prim.Native.Nat.{ℕ, zero, suc, _+_, _-_, _≤_, _<_}
 use native.Mathlib.Omega.{arith}
 use lib.Dec.{leb}
@@ -10,14 +10,9 @@ use mathlib.Core.Logic.{_≢_}
 use borrow.Author.Count.{below-more}
 use lib.ListN.{length, getD, set}
 use lib.Seq.{getD-set-same, getD-set-other}
-use mir.Syntax.{w32}
-use mir.Val.{SFits, toZ, ofZ}
 use Rattle.std.proofs.shelf.Tests.{and-parts, and-from, le-leb, leb-true, cond-true, cond-false}
 use Rattle.std.proofs.shelf.Ways.{tells}
-use Rattle.std.proofs.shelf.Signed.{toZ-ofZ}
-use Rattle.std.proofs.shelf.Lists.{getD-map}
 use Rattle.std.specs.declared.option.Option.the-variants.{Some}
-use Rattle.blocks.specs.Rounding.{rounded}
 use Rattle.blocks.specs.Words.{outside, first-outside, all-within}
 
 -- one place more
@@ -73,7 +68,3 @@ module _ (b n i k : ℕ) (ws read : List ℤ) (w : ℤ) (more : k < n) (fresh : 
       below-more _ _
       (λ j h. let ne : j ≢ k = omega arith in rw getD-set-other (kept j h))
       (getD-set-same read k w (pos 0) room ∙ fresh)
-
--- what the rounding of a word answered
-pub rounded-at : (e : ℕ) (raw : List ℤ) (i : ℕ) (w : ℤ) → i < length raw → SFits w32 (getD raw i (pos 0)) → w ≡ rounded e (toZ w32 (ofZ w32 (getD raw i (pos 0)))) → w ≡ getD (map (rounded e) raw) i (pos 0)
-rounded-at e raw i w h f q = q ∙ ap (rounded e) (toZ-ofZ w32 (getD raw i (pos 0)) f) ∙ sym (getD-map (rounded e) raw i (pos 0) (pos 0) h)

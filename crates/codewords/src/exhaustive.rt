@@ -1,5 +1,7 @@
 // The nearest codeword by looking at every codeword: the reference for the decoders.
-ghost use Prim.Native.Nat.{_<_, _^_};
+ghost use mathlib.Core.Path.{_≡_};
+ghost use Prim.Native.Nat.{_≤_, _<_, _^_};
+ghost use lib.ListN.{length};
 ghost use Rattle.points.specs.Points.{levels};
 ghost use Rattle.blocks.specs.Blocks.{block-of};
 ghost use Rattle.codewords.specs.Codewords.{word-of};
@@ -16,6 +18,16 @@ pub struct Decision {
     pub distance: u64,
 }
 
+// How many codewords there are.
+pub fn codeword_count<B: Alphabet>(alphabet: &B) -> usize
+    ensures value { λ n. ⌜ n ≡ length (points (now (alphabet .entry))) ^ levels (Point·Kind .shape) ⌝ }
+    ensures bound { λ n. ⌜ n ≤ 2 ^ 32 ⌝ }
+{
+    alphabet
+        .size()
+        .pow(<B::Point as Kind>::level_count() as u32)
+}
+
 // The nearest codeword, the earlier one among equals.
 pub fn nearest<B: Alphabet>(alphabet: &B, block: &Block) -> Decision
     ensures nearest { λ r. ⌜ Nearest (block-of (Point·Kind .shape) (now (block .entry))) (points (now (alphabet .entry))) (levels (Point·Kind .shape)) (word-of (r .codeword)) (r .distance) ⌝ }
@@ -25,7 +37,7 @@ pub fn nearest<B: Alphabet>(alphabet: &B, block: &Block) -> Decision
     let levels = <B::Point as Kind>::level_count();
     let mut best = Codeword::numbered(size, levels, 0);
     let mut least = word_distance(alphabet, block, best.as_slice());
-    for number in 1..size.pow(levels as u32) {
+    for number in 1..codeword_count(alphabet) {
         let codeword = Codeword::numbered(size, levels, number);
         let distance = word_distance(alphabet, block, codeword.as_slice());
         if distance < least {

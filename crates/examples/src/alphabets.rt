@@ -17,23 +17,28 @@ use points::pair::PairDebug;
 use points::pair::PairKind;
 use points::pair::PairPartialEq;
 use points::whole::Whole;
+use points::whole::WholeDebug;
 use points::whole::WholeKind;
+use points::whole::WholePartialEq;
 use std::test::*;
 
-const EIGHT: [(i32, i32); 8] = [
-    (-7, 0), (-5, 0), (-3, 0), (-1, 0), (1, 0), (3, 0), (5, 0), (7, 0),
-];
-
-const SIXTEEN: [(i32, i32); 16] = [
-    (-15, 0), (-13, 0), (-11, 0), (-9, 0), (-7, 0), (-5, 0), (-3, 0), (-1, 0),
-    (1, 0), (3, 0), (5, 0), (7, 0), (9, 0), (11, 0), (13, 0), (15, 0),
-];
-
 const FOUR_BY_FOUR: [(i32, i32); 16] = [
-    (-3, -3), (-3, -1), (-3, 1), (-3, 3),
-    (-1, -3), (-1, -1), (-1, 1), (-1, 3),
-    (1, -3), (1, -1), (1, 1), (1, 3),
-    (3, -3), (3, -1), (3, 1), (3, 3),
+    (-3, -3),
+    (-3, -1),
+    (-3, 1),
+    (-3, 3),
+    (-1, -3),
+    (-1, -1),
+    (-1, 1),
+    (-1, 3),
+    (1, -3),
+    (1, -1),
+    (1, 1),
+    (1, 3),
+    (3, -3),
+    (3, -1),
+    (3, 1),
+    (3, 3),
 ];
 
 fn check_refused<T: Drop>(answer: Result<T, AlphabetFault>, number: u8) -> Result<(), Fail> {
@@ -79,8 +84,18 @@ fn pams() -> Result<(), Fail> {
         &Pam::new(PamSize::Four),
         &[(-3, 0), (-1, 0), (1, 0), (3, 0)],
     )?;
-    check_points(&Pam::new(PamSize::Eight), &EIGHT)?;
-    check_points(&Pam::new(PamSize::Sixteen), &SIXTEEN)
+    let eight = Pam::new(PamSize::Eight);
+    check_eq(
+        (eight.point(0)?, eight.point(7)?),
+        (Whole { value: -7 }, Whole { value: 7 }),
+    )?;
+    check_refused(eight.point(8), 15)?;
+    let sixteen = Pam::new(PamSize::Sixteen);
+    check_eq(
+        (sixteen.point(0)?, sixteen.point(15)?),
+        (Whole { value: -15 }, Whole { value: 15 }),
+    )?;
+    check_refused(sixteen.point(16), 15)
 }
 
 #[test]

@@ -16,6 +16,7 @@ use alphabets::pam::PamAlphabet;
 use alphabets::pam::PamSize;
 use blocks::block::Block;
 use blocks::rounding::ExtraBits;
+use codewords::exhaustive::codeword_count;
 use codewords::exhaustive::nearest;
 use points::pair::Pair;
 use points::pair::PairKind;
@@ -40,7 +41,7 @@ fn run(rt: &impl Print) -> Result<(), TraceError> {
     )?;
     trace::print_levels(rt, &block)?;
     let alphabet = Grid::new(Pam::new(PamSize::new(SIDE)?));
-    let codewords = trace::codeword_count(&alphabet);
+    let codewords = codeword_count(&alphabet);
     println!(rt, "\nNearest of {codewords} codewords")?;
     trace::print_decision(rt, &alphabet, &nearest(&alphabet, &block))
 }

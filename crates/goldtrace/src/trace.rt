@@ -1,7 +1,5 @@
 // The lines of each step. Levels are counted from 1 in what is written.
-ghost use mathlib.Core.Path.{_≡_};
-ghost use Prim.Native.Nat.{_<_, _^_};
-ghost use lib.ListN.{length};
+ghost use Prim.Native.Nat.{_<_};
 use crate::error::FromAlphabetFault;
 use crate::error::FromIo;
 use crate::error::TraceError;
@@ -70,13 +68,6 @@ fn print_level(rt: &impl Print, block: &Block, level: usize) -> io::Result<()>
     }
     let received = Complex(block.received::<Pair>(level));
     println!(rt, ", z_{n} = {received}")
-}
-
-// How many codewords there are: one of the alphabet's points for each of four levels.
-pub fn codeword_count<B: Alphabet<Point = Pair>>(alphabet: &B) -> usize
-    ensures { λ n. ⌜ n ≡ length (points (now (alphabet .entry))) ^ 4 ⌝ }
-{
-    alphabet.size().pow(4)
 }
 
 // The codeword, from its last symbol to the first, and its distance.

@@ -1,8 +1,9 @@
 // Reading a block from raw words.
 ghost use mathlib.Core.Path.{_≡_};
 ghost use mathlib.Core.List.{map};
-ghost use Prim.Native.Nat.{_+_, _≤_};
-ghost use lib.ListN.{length};
+ghost use Prim.Native.Nat.{_+_, _≤_, _<_};
+ghost use lib.IntN.{pos};
+ghost use lib.ListN.{length, getD};
 ghost use Rattle.std.specs.Results.{Cases, mapped};
 ghost use Rattle.std.specs.declared.option.Option.the-variants.{Some};
 ghost use Rattle.blocks.specs.Rounding.{rounded};
@@ -40,6 +41,14 @@ fn is_outside_gain(word: i32) -> bool
     word < 0 || word > MOST_GAIN
 }
 
+// The word at a place, rounded.
+fn rounded_word(words: &[i32], bits: ExtraBits, place: usize) -> i32
+    requires { ⌜ place < length (now words) ⌝ }
+    ensures { λ r. ⌜ r ≡ getD (map (rounded (bits .count)) (now (words .entry))) place (pos 0) ⌝ }
+{
+    bits.round(words[place])
+}
+
 // The words of `count` places from `place` on, rounded; or the first place whose word is outside -limit to limit - 1.
 fn read_words(
     words: &[i32],
@@ -54,7 +63,7 @@ fn read_words(
 {
     let mut read = [0; 8];
     for k in 0..count {
-        let word = bits.round(words[place + k]);
+        let word = rounded_word(words, bits, place + k);
         if is_outside(word, limit) {
             return Err(place + k);
         }
@@ -74,7 +83,7 @@ fn read_row(
     requires there { ⌜ place + 1 + others ≤ length (now words) ⌝ }
     ensures { λ r. ⌜ Cases r (λ row. RowRead others place (map (rounded (bits .count)) (now (words .entry))) row) (λ f. row-fault others place (map (rounded (bits .count)) (now (words .entry))) ≡ Some f) ⌝ }
 {
-    let gain = bits.round(words[place]);
+    let gain = rounded_word(words, bits, place);
     if is_outside_gain(gain) {
         return Err(LoadFault::Diagonal { word: place });
     }

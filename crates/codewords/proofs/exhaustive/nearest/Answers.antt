@@ -7,17 +7,9 @@ use Rattle.blocks.specs.Blocks.{block-of}
 use Rattle.codewords.specs.Codewords.{word-distance}
 use Rattle.codewords.specs.Numbers.{numbered}
 use Rattle.codewords.proofs.Bounds.{distance-small}
-use Rattle.codewords.proofs.Least.{Least, least-one, least-keeps, least-takes, codewords-some, count-small, nearest-is}
+use Rattle.codewords.proofs.Least.{Least, least-one, least-keeps, least-takes, codewords-some, nearest-is}
 use Rattle.codewords.proofs.exhaustive.nearest.Needs as need
 use Rattle.codewords.proofs.exhaustive.nearest.Needs.{then-distance-least, else-distance-least}
-
-pub pow-number-end-requires : need.pow-number-end-requires
-pow-number-end-requires g c κs =
-    let sh = g .Point·Kind .shape in
-    let pts = g .B·Alphabet .points (c .args .alphabet .now) in
-    let few = g .B·Alphabet·met .lawful (c .args .alphabet .now) .few in
-    let same = ap₂ (λ (m n : ℕ). m ^ n) (c .size-size .ensures) (c .level-count-levels .ensures) in
-    omega (arith, same, count-small sh (length pts) few)
 
 pub loop-number-holds : need.loop-number-holds
 loop-number-holds g c =
@@ -57,9 +49,8 @@ returns g c =
     let at = λ (x : ℕ). word-distance b pts (numbered (length pts) (levels sh) x) in
     let inv = c .loop-number .inv in
     let x = inv .0 in
-    let all = ap₂ (λ (m n : ℕ). m ^ n) (c .size-size .ensures) (c .level-count-levels .ensures) in
     let some = codewords-some (length pts) (levels sh) (lawful .some) in
-    let end : c .loop-number .number ≡ length pts ^ levels sh = omega (arith, some, all, c .pow-number-end .ensures, c .loop-number-test .left, c .loop-number .kept .number-end, c .loop-number .kept .number) in
+    let end : c .loop-number .number ≡ length pts ^ levels sh = omega (arith, some, c .codeword-count-number-end .ensures .value, c .loop-number-test .left, c .loop-number .kept .number-end, c .loop-number .kept .number) in
     let is = nearest-is b pts (levels sh) (lawful .some) x (subst (λ (n : ℕ). Least at n x) end (inv .3)) in
     record {
       nearest = rw (inv .1, inv .2) is;

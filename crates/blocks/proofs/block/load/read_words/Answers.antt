@@ -3,15 +3,14 @@ use mathlib.Core.Path.{_≡_, refl, sym, ap, _∙_}
 use mathlib.Core.Bool.{true, false}
 use mathlib.Core.List.{map}
 use Prim.Native.Nat.{ℕ, _+_, _-_, _<_}
-use lib.IntN.{pos}
-use lib.ListN.{length, getD, length-set}
+use lib.ListN.{length, length-set}
 use mir.Syntax.{w32}
 use mir.Val.{SFits}
 use borrow.Author.Needs.{needs}
 use Rattle.std.proofs.shelf.Signed.{toZ-ofZ}
 use Rattle.blocks.specs.Rounding.{rounded}
 use Rattle.blocks.specs.Words.{outside, first-outside}
-use Rattle.blocks.proofs.Limits.{none-yet, within-zeros, inside-near, within-set, turn-refuses, turn-goes-on, turn-keeps, rounded-at}
+use Rattle.blocks.proofs.Limits.{none-yet, within-zeros, inside-near, within-set, turn-refuses, turn-goes-on, turn-keeps}
 use Rattle.blocks.proofs.block.load.read_words.Needs as need
 
 pub loop-k-holds : need.loop-k-holds
@@ -25,36 +24,32 @@ loop-k-holds c = (
 pub loop-k-again : need.loop-k-again
 loop-k-again c =
     let b = c .args .limit in
+    let n = c .args .count in
     let i = c .args .place in
     let k = c .loop-k .k in
-    let w = c .round-word .result in
-    let raw = c .args .words .now in
-    let ws = map (rounded (c .args .bits .count)) raw in
-    let fr : SFits w32 (getD raw (i + k) (pos 0)) = search needs in
-    let fw : SFits w32 w = search needs in
+    let read = c .loop-k .read in
+    let w = c .rounded-word-word .result in
+    let ws = map (rounded (c .args .bits .count)) (c .args .words .now) in
     let inv = c .loop-k .inv in
-    let fresh = rounded-at (c .args .bits .count) raw (i + k) w (omega (arith, c .pre .there, c .loop-k-test .taken)) fr (c .round-word .ensures) in
-    let room : k < length (c .loop-k .read) = omega (arith, inv .3, c .pre .few, c .loop-k-test .taken) in
+    let fresh = c .rounded-word-word .ensures in
+    let fits : SFits w32 w = search needs in
     let inside : outside b w ≡ false = simp toZ-ofZ at (sym (c .if-is-outside .ensures tt)) in
+    let room : k < length read = omega (arith, inv .3, c .pre .few, c .loop-k-test .taken) in
     simp toZ-ofZ (
-      turn-goes-on b (c .args .count) i k ws (c .loop-k .read) w (c .loop-k-test .taken) fresh (inv .0) inside,
-      turn-keeps b (c .args .count) i k ws (c .loop-k .read) w (c .loop-k-test .taken) fresh (inv .0) room (inv .1),
-      within-set b (c .loop-k .read) k w (inside-near b w inside) (inv .2),
-      length-set (c .loop-k .read) k w ∙ inv .3,
+      turn-goes-on b n i k ws read w (c .loop-k-test .taken) fresh (inv .0) inside,
+      turn-keeps b n i k ws read w (c .loop-k-test .taken) fresh (inv .0) room (inv .1),
+      within-set b read k w (inside-near b w inside) (inv .2),
+      length-set read k w ∙ inv .3,
     )
 
 pub returns-then-is-outside : need.returns-then-is-outside
 returns-then-is-outside c =
     let b = c .args .limit in
-    let i = c .args .place in
-    let k = c .loop-k .k in
-    let w = c .round-word .result in
-    let raw = c .args .words .now in
-    let fr : SFits w32 (getD raw (i + k) (pos 0)) = search needs in
-    let fw : SFits w32 w = search needs in
-    let fresh = rounded-at (c .args .bits .count) raw (i + k) w (omega (arith, c .pre .there, c .loop-k-test .taken)) fr (c .round-word .ensures) in
+    let w = c .rounded-word-word .result in
+    let ws = map (rounded (c .args .bits .count)) (c .args .words .now) in
+    let fits : SFits w32 w = search needs in
     let beyond : outside b w ≡ true = simp toZ-ofZ at (sym (c .if-is-outside .ensures tt)) in
-    turn-refuses b (c .args .count) i k (map (rounded (c .args .bits .count)) raw) (c .loop-k .read) w (c .loop-k-test .taken) fresh (c .loop-k .inv .0) beyond
+    turn-refuses b (c .args .count) (c .args .place) (c .loop-k .k) ws (c .loop-k .read) w (c .loop-k-test .taken) (c .rounded-word-word .ensures) (c .loop-k .inv .0) beyond
 
 pub returns : need.returns
 returns c =
