@@ -26,8 +26,7 @@ pub impl Kind for Whole as WholeKind {
         Self::PARTS
     }
 
-    fn from_parts(re: i32, im: i32) -> Whole {
-        let _ = im;
+    fn from_parts(re: i32, _im: i32) -> Whole {
         Whole { value: re }
     }
 
