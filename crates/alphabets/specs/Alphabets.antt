@@ -1,6 +1,7 @@
 -- What an alphabet is and answers, by the list of its points.
 --
---   Lawful sh pts      pts can be the points of an alphabet whose points have the shape sh
+--   Lawful sh pts      pts can be the points of an alphabet of the shape sh: at least one and at most the shape's limit,
+--                      each part within −15 to 15, each point of that shape, no two of them equal
 --   point-answer       the point at an index, or the refusal of an index that is not below the size
 use mathlib.Core.Path.{_≡_}
 use mathlib.Core.Bool.{cond}

@@ -41,10 +41,9 @@ module _ (b : System) (pts : List Gaussian) (n : ℕ) (some : 0 < length pts) wh
   abbrev pub at-number : ℕ → ℕ
   at-number x = word-distance b pts (numbered (length pts) n x)
 
-  pub nearest-is : (x : ℕ) → Least at-number (length pts ^ n) x → Nearest b pts n (numbered (length pts) n x) (at-number x)
-  nearest-is x p = record {
-    codeword = numbered-codeword (length pts) n x some;
-    reached = refl;
+  pub nearest-is : (x : ℕ) → at-number x < 2 ^ 40 → Least at-number (length pts ^ n) x → Nearest b pts n (numbered (length pts) n x) (at-number x)
+  nearest-is x bound p = record {
+    reached = record { codeword = numbered-codeword (length pts) n x some; value = refl; bound = bound };
     ahead = λ v h other.
         let m = length pts in
         let y = number-of m v in

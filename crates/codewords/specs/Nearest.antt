@@ -9,9 +9,8 @@ use Prim.Native.Nat.{ℕ, _<_}
 use lib.ListN.{length}
 use Rattle.points.specs.Points.{Gaussian}
 use Rattle.blocks.specs.Systems.{System}
-use Rattle.codewords.specs.Codewords.{IsCodeword, word-distance, Earlier}
+use Rattle.codewords.specs.Codewords.{IsCodeword, word-distance, Reached, Earlier}
 
 pub record Nearest (b : System) (pts : List Gaussian) (n : ℕ) (w : List ℕ) (d : ℕ) : Type 0 where
-  pub codeword : IsCodeword (length pts) n w
-  pub reached : d ≡ word-distance b pts w
+  pub reached : Reached b pts n w d
   pub ahead : (v : List ℕ) → IsCodeword (length pts) n v → (v ≡ w → ⊥) → (d < word-distance b pts v) ⊎ ((d ≡ word-distance b pts v) × Earlier w v)

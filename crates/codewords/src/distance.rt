@@ -2,10 +2,12 @@
 ghost use mathlib.Core.Path.{_≡_};
 ghost use Prim.Native.Nat.{_+_, _≤_, _<_, _^_};
 ghost use lib.ListN.{length};
-ghost use Rattle.std.specs.Options.{Cases as BySome, whenTrue};
+ghost use Rattle.std.specs.Options.{Cases as BySome};
+ghost use Rattle.std.specs.Orderings.{Decides};
+ghost use Rattle.std.specs.shelf.Lists.{All};
 ghost use Rattle.points.specs.Points.{Within, levels};
 ghost use Rattle.blocks.specs.Blocks.{block-of};
-ghost use Rattle.codewords.specs.Codewords.{all-below, is-codeword, word-distance, target-of};
+ghost use Rattle.codewords.specs.Codewords.{IsCodeword, Reached, word-distance, target-of};
 use alphabets::alphabet::Alphabet;
 use alphabets::alphabet::point_or_origin;
 use blocks::block::Block;
@@ -43,10 +45,12 @@ pub(crate) fn word_distance<B: Alphabet>(alphabet: &B, block: &Block, word: &[us
 
 // The distance of a codeword, s_1 first; none where the list is no codeword of the alphabet.
 pub fn distance<B: Alphabet>(alphabet: &B, block: &Block, word: &[usize]) -> Option<u64>
-    ensures value { λ r. ⌜ r ≡ whenTrue (is-codeword (length (points (now (alphabet .entry)))) (levels (Point·Kind .shape)) (now (word .entry))) (word-distance (block-of (Point·Kind .shape) (now (block .entry))) (points (now (alphabet .entry))) (now (word .entry))) ⌝ }
-    ensures bound { λ r. ⌜ BySome r (Unit {0}) (λ d. d < 2 ^ 40) ⌝ }
+    ensures { λ r. ⌜ BySome r (IsCodeword (length (points (now (alphabet .entry)))) (levels (Point·Kind .shape)) (now (word .entry)) → ⊥) (λ d. Reached (block-of (Point·Kind .shape) (now (block .entry))) (points (now (alphabet .entry))) (levels (Point·Kind .shape)) (now (word .entry)) d) ⌝ }
 {
-    if word.len() != <B::Point as Kind>::level_count() || !all_below(word, alphabet.size()) {
+    if word.len() != <B::Point as Kind>::level_count() {
+        return None;
+    }
+    if !all_below(word, alphabet.size()) {
         return None;
     }
     Some(word_distance(alphabet, block, word))
@@ -54,7 +58,7 @@ pub fn distance<B: Alphabet>(alphabet: &B, block: &Block, word: &[usize]) -> Opt
 
 // Whether every index is below the size.
 fn all_below(word: &[usize], size: usize) -> bool
-    ensures { λ r. ⌜ r ≡ all-below size (now (word .entry)) ⌝ }
+    ensures { λ r. ⌜ Decides r (All (λ i. i < size) (now (word .entry))) ⌝ }
 {
     for index in word {
         if *index >= size {

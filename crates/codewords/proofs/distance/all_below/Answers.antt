@@ -1,25 +1,26 @@
-use mathlib.Core.Path.{refl, sym, ap, _∙_}
-use Rattle.std.proofs.shelf.Lists.{drop-more, drop-all}
-use Rattle.std.proofs.shelf.Tests.{lt-ltb, le-ltb}
-use lib.ListN.{getD}
-use Rattle.codewords.specs.Codewords.{all-below}
+use native.Mathlib.Omega.{arith}
+use mathlib.Core.Path.{refl, subst}
+use Prim.Native.Nat.{ℕ, _<_}
+use Rattle.std.proofs.shelf.Elements.{all-getD, all-more}
+use Rattle.std.proofs.shelf.Lists.{take-all}
+use Rattle.std.proofs.shelf.Tests.{false≢true}
+use Rattle.std.specs.shelf.Lists.{All}
 use Rattle.codewords.proofs.distance.all_below.Needs as need
 
 pub returns-then-index-size : need.returns-then-index-size
-returns-then-index-size c =
-    let w = c .args .word .now in
-    let i = c .loop-index .index-index in
-    let here = drop-more w i 0 (c .loop-index-test .taken) in
-    let beyond = le-ltb (getD w i 0) (c .args .size) (c .if-index-size .taken) in
-    sym (c .loop-index .inv ∙ rw (here, beyond) refl)
+returns-then-index-size c = (
+  (λ never. absurd (false≢true never)),
+  (λ all.
+      let below = all-getD (λ (i : ℕ). i < c .args .size) (c .args .word .now) (c .loop-index .index-index) 0 (c .loop-index-test .taken) all in
+      let bad : ⊥ = omega (arith, below, c .if-index-size .taken) in
+      absurd bad),
+)
 
 pub loop-index-again : need.loop-index-again
-loop-index-again c =
-    let w = c .args .word .now in
-    let i = c .loop-index .index-index in
-    let here = drop-more w i 0 (c .loop-index-test .taken) in
-    let below = lt-ltb (getD w i 0) (c .args .size) (c .if-index-size .left) in
-    c .loop-index .inv ∙ rw (here, below) refl
+loop-index-again c = all-more (λ (i : ℕ). i < c .args .size) (c .args .word .now) (c .loop-index .index-index) 0 (c .loop-index-test .taken) (c .loop-index .inv) (c .if-index-size .left)
 
 pub returns : need.returns
-returns c = sym (c .loop-index .inv ∙ ap (all-below (c .args .size)) (drop-all (c .loop-index .index-index) (c .args .word .now) (c .loop-index-test .left)))
+returns c = (
+  (λ _. subst (All (λ (i : ℕ). i < c .args .size)) (take-all (c .loop-index .index-index) (c .args .word .now) (c .loop-index-test .left)) (c .loop-index .inv)),
+  (λ _. refl),
+)

@@ -1,8 +1,8 @@
-use mathlib.Core.Path.{_≡_}
-use lib.ListN.{drop}
-use Rattle.codewords.specs.Codewords.{all-below}
+use Prim.Native.Nat.{_<_}
+use lib.ListN.{take}
+use Rattle.std.specs.shelf.Lists.{All}
 use Rattle.codewords.proofs.distance.all_below.Given as given
 
--- the indices that are left decide
+-- every index so far
 abbrev pub Inv-loop-index : given.InvT-loop-index
-Inv-loop-index l = all-below (l .size) (l .word) ≡ all-below (l .size) (drop (l .index-index) (l .word))
+Inv-loop-index l = All (λ i. i < l .size) (take (l .index-index) (l .word))

@@ -51,8 +51,5 @@ returns g c =
     let x = inv .0 in
     let some = codewords-some (length pts) (levels sh) (lawful .some) in
     let end : c .loop-number .number ≡ length pts ^ levels sh = omega (arith, some, c .codeword-count-number-end .ensures .value, c .loop-number-test .left, c .loop-number .kept .number-end, c .loop-number .kept .number) in
-    let is = nearest-is b pts (levels sh) (lawful .some) x (subst (λ (n : ℕ). Least at n x) end (inv .3)) in
-    record {
-      nearest = rw (inv .1, inv .2) is;
-      bound = omega (arith, inv .2, distance-small sh (c .args .block .now) pts (numbered (length pts) (levels sh) x) lawful);
-    }
+    let small = distance-small sh (c .args .block .now) pts (numbered (length pts) (levels sh) x) lawful in
+    rw (inv .1, inv .2) (nearest-is b pts (levels sh) (lawful .some) x small (subst (λ (n : ℕ). Least at n x) end (inv .3)))
