@@ -3,3 +3,4 @@ pub mod Least
 pub mod Targets
 pub mod Bounds
 pub mod Sums
+pub mod Order

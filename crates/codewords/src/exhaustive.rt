@@ -5,7 +5,7 @@ ghost use lib.ListN.{length};
 ghost use Rattle.points.specs.Points.{levels};
 ghost use Rattle.blocks.specs.Blocks.{block-of};
 ghost use Rattle.codewords.specs.Codewords.{word-of};
-ghost use Rattle.codewords.specs.Nearest.{Nearest};
+ghost use Rattle.codewords.specs.Nearest.{Nearest, Settled};
 use crate::codeword::Codeword;
 use crate::distance::word_distance;
 use alphabets::alphabet::Alphabet;
@@ -30,7 +30,8 @@ pub fn codeword_count<B: Alphabet>(alphabet: &B) -> usize
 
 // The nearest codeword, the earlier one among equals.
 pub fn nearest<B: Alphabet>(alphabet: &B, block: &Block) -> Decision
-    ensures { λ r. ⌜ Nearest (block-of (Point·Kind .shape) (now (block .entry))) (points (now (alphabet .entry))) (levels (Point·Kind .shape)) (word-of (r .codeword)) (r .distance) ⌝ }
+    ensures nearest { λ r. ⌜ Nearest (block-of (Point·Kind .shape) (now (block .entry))) (points (now (alphabet .entry))) (levels (Point·Kind .shape)) (word-of (r .codeword)) (r .distance) ⌝ }
+    ensures settled { λ _. ⌜ Settled ⌝ }
 {
     let size = alphabet.size();
     let levels = <B::Point as Kind>::level_count();

@@ -8,6 +8,7 @@ use Rattle.codewords.specs.Codewords.{word-distance}
 use Rattle.codewords.specs.Numbers.{numbered}
 use Rattle.codewords.proofs.Bounds.{distance-small}
 use Rattle.codewords.proofs.Least.{Least, least-one, least-keeps, least-takes, codewords-some, nearest-is}
+use Rattle.codewords.proofs.Order.{settled}
 use Rattle.codewords.proofs.exhaustive.nearest.Needs as need
 use Rattle.codewords.proofs.exhaustive.nearest.Needs.{then-distance-least, else-distance-least}
 
@@ -52,4 +53,7 @@ returns g c =
     let some = codewords-some (length pts) (levels sh) (lawful .some) in
     let end : c .loop-number .number ≡ length pts ^ levels sh = omega (arith, some, c .codeword-count-number-end .ensures .value, c .loop-number-test .left, c .loop-number .kept .number-end, c .loop-number .kept .number) in
     let small = distance-small sh (c .args .block .now) pts (numbered (length pts) (levels sh) x) lawful in
-    rw (inv .1, inv .2) (nearest-is b pts (levels sh) (lawful .some) x small (subst (λ (n : ℕ). Least at n x) end (inv .3)))
+    record {
+      nearest = rw (inv .1, inv .2) (nearest-is b pts (levels sh) (lawful .some) x small (subst (λ (n : ℕ). Least at n x) end (inv .3)));
+      settled = settled;
+    }
