@@ -15,6 +15,7 @@ use Rattle.points.specs.Points.{Gaussian, Shape, whole, pair, levels, parts}
 use Rattle.blocks.specs.Rounding.{rounded, bits-answer}
 use Rattle.blocks.specs.Reading.{WordsRead}
 use Rattle.blocks.specs.Systems.{rows, values}
+use Rattle.blocks.specs.Layouts.{Layout}
 use Rattle.blocks.specs.Refusals.{channel-count, channel-fault, answer, load-answer}
 use Rattle.blocks.proofs.Rows.{values-same}
 
@@ -42,3 +43,6 @@ module _ (sh : Shape) (e : ℕ) (cs zs : List ℤ) where
 
 pub bits-are : (e n : ℕ) → Ok n ≡ bits-answer e → n ≡ e
 bits-are e n h = grind (arith, tells)
+
+pub written-out : Layout
+written-out = ((λ _ _ _ _ _ _ _ _ _ _ _ _ _ _ _ _ _ _ _ _ _ _ _ _. refl), (λ _ _ _ _ _ _ _ _ _ _ _ _ _ _ _ _ _ _ _ _ _ _ _ _ _ _ _ _ _ _ _ _ _ _ _ _ _ _ _ _ _ _ _ _. refl))

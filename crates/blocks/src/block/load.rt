@@ -10,6 +10,7 @@ ghost use Rattle.blocks.specs.Rounding.{rounded};
 ghost use Rattle.blocks.specs.Words.{outside, first-outside};
 ghost use Rattle.points.specs.Points.{levels};
 ghost use Rattle.blocks.specs.Systems.{rows as rowsOf};
+ghost use Rattle.blocks.specs.Layouts.{Layout};
 ghost use Rattle.blocks.specs.Refusals.{outside-gain, row-fault, channel-count, channel-fault, answer, load-answer};
 ghost use Rattle.blocks.specs.Blocks.{matrix-of, block-of};
 ghost use Rattle.blocks.specs.Reading.{WordsRead, RowRead};
@@ -124,7 +125,8 @@ impl Block {
         channel: &[i32],
         received: &[i32],
     ) -> Result<Block, LoadFault>
-        ensures { λ r. ⌜ mapped (block-of shape) (λ f. f) r ≡ load-answer shape «extra_bits» (now (channel .entry)) (now (received .entry)) ⌝ }
+        ensures answer { λ r. ⌜ mapped (block-of shape) (λ f. f) r ≡ load-answer shape «extra_bits» (now (channel .entry)) (now (received .entry)) ⌝ }
+        ensures layout { λ _. ⌜ Layout ⌝ }
     {
         let bits = ExtraBits::new(extra_bits)?;
         if channel.len() != channel_count::<K>() {
