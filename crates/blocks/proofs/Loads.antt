@@ -9,7 +9,7 @@ use Rattle.std.proofs.shelf.Tests.{le-ltb, eq-eqb}
 use Rattle.std.proofs.shelf.Ways.{tells}
 use Rattle.std.specs.declared.option.Option.{Option}
 use Rattle.std.specs.declared.option.Option.the-variants.{Some, None}
-use Rattle.std.specs.declared.result.Result.the-variants.{Ok}
+use Rattle.std.specs.declared.result.Result.the-variants.{Ok, Err}
 use Rattle.faults.specs.declared.load.LoadFault.{LoadFault}
 use Rattle.points.specs.Points.{Gaussian, Shape, whole, pair, levels, parts}
 use Rattle.blocks.specs.Rounding.{rounded, bits-answer}
@@ -19,12 +19,17 @@ use Rattle.blocks.specs.Layouts.{Layout}
 use Rattle.blocks.specs.Refusals.{channel-count, channel-fault, answer, load-answer}
 use Rattle.blocks.proofs.Rows.{values-same}
 
-answered : {X : Type 0} (o : Option LoadFault) (x y : X) → Ok y ≡ answer o x → (o ≡ None) × (y ≡ x)
+pub never : _≡_ {A = ℕ} 0 1 → ⊥
+never h = omega arith
+
+-- what an answer says of the fault
+pub answered : {X : Type 0} (o : Option LoadFault) (x y : X) → Ok y ≡ answer o x → (o ≡ None) × (y ≡ x)
 answered None x y e = (refl, cc)
 answered (Some f) x y e = let bad : _≡_ {A = ℕ} 0 1 = cc in absurd (never bad)
-  where
-    never : _≡_ {A = ℕ} 0 1 → ⊥
-    never h = omega arith
+
+pub refused : {X : Type 0} (o : Option LoadFault) (x : X) (f : LoadFault) → Err f ≡ answer o x → o ≡ Some f
+refused None x f e = let bad : _≡_ {A = ℕ} 0 1 = cc in absurd (never bad)
+refused (Some g) x f e = cc
 
 all-received : (sh : Shape) (k : ℕ) → k < parts sh * levels sh → k < 8
 all-received whole k h = h

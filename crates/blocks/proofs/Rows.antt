@@ -19,8 +19,9 @@ use Rattle.faults.specs.declared.load.LoadFault.the-variants.{Diagonal, Part}
 use Rattle.points.specs.Points.{Gaussian, gaussian, origin, real, Within, Shape, whole, pair, levels, parts, value-at}
 use Rattle.blocks.specs.Words.{first-outside, all-within}
 use Rattle.blocks.specs.Systems.{values, rows}
+use Rattle.points.proofs.Inside.{Inside, inside-within}
 use Rattle.blocks.proofs.Limits.{within-at}
-use Rattle.blocks.specs.declared.block.ChannelRow.{ChannelRow}
+use Rattle.blocks.specs.declared.words.ChannelRow.{ChannelRow}
 use Rattle.blocks.specs.Blocks.{row-of, matrix-of}
 use Rattle.blocks.specs.Reading.{RowRead}
 use Rattle.blocks.specs.Refusals.{outside-gain, row-fault, channel-count, channel-fault, or-else}
@@ -147,6 +148,9 @@ value-of-many sh (suc n) i (suc k) ws h = value-of-many sh n (i + parts sh) k ws
     moved whole = omega arith
     moved pair = omega arith
 
+pub value-inside : (sh : Shape) (b : ℕ) (ws : List ℤ) (i : ℕ) → all-within b ws ≡ true → Inside sh b (value-at sh ws i)
+value-inside whole b ws i t = record { re = within-at b ws i t; im = omega arith }
+value-inside pair b ws i t = record { re = within-at b ws i t; im = within-at b ws (i + 1) t }
+
 pub value-near : (sh : Shape) (b : ℕ) (ws : List ℤ) (i : ℕ) → all-within b ws ≡ true → Within b (value-at sh ws i)
-value-near whole b ws i t = record { re = within-at b ws i t; im = omega arith }
-value-near pair b ws i t = record { re = within-at b ws i t; im = within-at b ws (i + 1) t }
+value-near sh b ws i t = inside-within sh b (value-at sh ws i) (value-inside sh b ws i t)

@@ -7,8 +7,8 @@ use mathlib.Core.List.{List, [], _∷_}
 use Prim.Native.Nat.{ℕ, zero, suc}
 use lib.IntN.{pos}
 use Rattle.points.specs.Points.{Gaussian, real, Shape, levels}
-use Rattle.blocks.specs.declared.block.ChannelRow.{ChannelRow}
-use Rattle.blocks.specs.declared.block.Block.{Block}
+use Rattle.blocks.specs.declared.words.ChannelRow.{ChannelRow}
+use Rattle.blocks.specs.declared.words.BlockWords.{BlockWords}
 use Rattle.blocks.specs.Systems.{System, values}
 
 abbrev pub row-of : Shape → ℕ → ChannelRow → List Gaussian
@@ -19,5 +19,5 @@ matrix-of sh zero rs = []
 matrix-of sh (suc k) [] = []
 matrix-of sh (suc k) (r ∷ rs) = row-of sh k r ∷ matrix-of sh k rs
 
-abbrev pub block-of : Shape → Block → System
+abbrev pub block-of : Shape → BlockWords → System
 block-of sh b = record { matrix = matrix-of sh (levels sh) (b .rows); received = values sh (levels sh) 0 (b .received) }

@@ -9,7 +9,7 @@ use Prim.Native.Nat.{ℕ, _+_, _<_}
 use lib.IntN.{ℤ, pos}
 use lib.ListN.{length, getD}
 use Rattle.std.specs.declared.option.Option.the-variants.{None}
-use Rattle.blocks.specs.declared.block.ChannelRow.{ChannelRow}
+use Rattle.blocks.specs.declared.words.ChannelRow.{ChannelRow}
 use Rattle.blocks.specs.Words.{first-outside, all-within}
 use Rattle.blocks.specs.Refusals.{row-fault}
 

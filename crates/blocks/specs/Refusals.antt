@@ -5,7 +5,8 @@
 --   row-fault          of one row: its diagonal word, then n other words
 --   channel-fault      of the rows that are left, word by word
 --   load-fault         of the whole call, in the order of its checks
---   load-answer        the fault, or the system of the rounded words
+--   rounded-system     the system of the rounded words
+--   load-answer        the fault, or that system
 use mathlib.Core.Bool.{Bool, true, false, not, _||_}
 use mathlib.Core.List.{List, [], _∷_, map}
 use Prim.Native.Nat.{ℕ, zero, suc, _+_, _*_}
@@ -71,5 +72,8 @@ abbrev pub answer : {X : Type 0} → Option LoadFault → X → Result X LoadFau
 answer None x = Ok x
 answer (Some f) x = Err f
 
+abbrev pub rounded-system : Shape → ℕ → List ℤ → List ℤ → System
+rounded-system sh e cs zs = system sh (map (rounded e) cs) (map (rounded e) zs)
+
 abbrev pub load-answer : Shape → ℕ → List ℤ → List ℤ → Result System LoadFault
-load-answer sh e cs zs = answer (load-fault sh e cs zs) (system sh (map (rounded e) cs) (map (rounded e) zs))
+load-answer sh e cs zs = answer (load-fault sh e cs zs) (rounded-system sh e cs zs)

@@ -1,29 +1,41 @@
-// What a block holds: rounded words within their limits.
+// A block of points of one kind.
 ghost use mathlib.Core.Path.{_≡_};
-ghost use mathlib.Core.Bool.{true};
-ghost use Prim.Native.Nat.{_≤_};
-ghost use lib.ListN.{length};
-ghost use Rattle.blocks.specs.Words.{all-within};
+ghost use Rattle.std.specs.Results.{mapped};
+ghost use Rattle.blocks.specs.Layouts.{Layout};
+ghost use Rattle.blocks.specs.Refusals.{load-answer};
+ghost use Rattle.blocks.specs.Blocks.{block-of};
+use crate::words::BlockWords;
+use faults::load::LoadFault;
+use points::kind::Kind;
+use std::marker::PhantomData;
 
-pub mod entries;
-pub mod load;
-
-// One row of the channel: its diagonal entry, and the words of the entries to the right.
+// The words of a block, with the kind of point that they were loaded for.
 #[derive(Clone, Copy)]
-pub struct ChannelRow {
-    gain: u32,
-    words: [i32; 8],
-    ghost mild: { gain ≤ 2047 },
-    ghost eight: { length words ≡ 8 },
-    ghost near: { all-within 2048 words ≡ true },
+pub struct Block<K> {
+    words: BlockWords,
+    kind: PhantomData<K>,
 }
 
-// Level 1 first. What lies past the levels of its kind of point is never looked at.
-#[derive(Clone, Copy)]
-pub struct Block {
-    rows: [ChannelRow; 8],
-    received: [i32; 8],
-    ghost deep: { length rows ≡ 8 },
-    ghost eight: { length received ≡ 8 },
-    ghost near: { all-within 32768 received ≡ true },
+impl<K: Kind> Block<K> {
+    // The block of these raw words, each with so many extra bits.
+    pub fn load(
+        extra_bits: u8,
+        channel: &[i32],
+        received: &[i32],
+    ) -> Result<Block<K>, LoadFault>
+        ensures answer { λ r. ⌜ mapped (λ b. block-of shape (b .words)) (λ f. f) r ≡ load-answer shape «extra_bits» (now (channel .entry)) (now (received .entry)) ⌝ }
+        ensures layout { λ _. ⌜ Layout ⌝ }
+    {
+        let words = BlockWords::load::<K>(extra_bits, channel, received)?;
+        Ok(Block {
+            words,
+            kind: PhantomData,
+        })
+    }
+
+    pub fn words(&self) -> &BlockWords
+        ensures { λ r. ⌜ now r ≡ now (self .entry) .words ⌝ }
+    {
+        &self.words
+    }
 }

@@ -10,7 +10,8 @@ use lib.ListN.{length}
 use Rattle.std.proofs.shelf.Tests.{cases-order}
 use Rattle.points.specs.Points.{Gaussian, Shape, whole, pair, levels, size-limit}
 use Rattle.blocks.specs.Systems.{System}
-use Rattle.codewords.specs.Codewords.{word-distance, Earlier}
+use Rattle.codewords.specs.Codewords.{Earlier}
+use Rattle.codewords.specs.Distances.{word-distance}
 use Rattle.codewords.specs.Nearest.{Nearest}
 use Rattle.codewords.specs.Numbers.{numbered}
 use Rattle.codewords.proofs.Numbering.{number-of, number-below, numbered-number, numbered-codeword, numbered-earlier}

@@ -4,3 +4,4 @@ pub mod Targets
 pub mod Bounds
 pub mod Sums
 pub mod Order
+pub mod Deciding

@@ -5,7 +5,8 @@ use mathlib.Core.Logic.{_⊎_, inl, inr, ⊎-elim}
 use Prim.Native.Nat.{ℕ, _<_}
 use native.Mathlib.Omega.{arith}
 use Rattle.std.proofs.shelf.Tests.{cases-eq}
-use Rattle.codewords.specs.Codewords.{word-distance, Earlier}
+use Rattle.codewords.specs.Codewords.{Earlier}
+use Rattle.codewords.specs.Distances.{word-distance}
 use Rattle.codewords.specs.Nearest.{Settled}
 
 never-earlier : (v : List ℕ) → Earlier v v → ⊥

@@ -8,12 +8,13 @@ use lib.ListN.{length, getD, drop}
 use Rattle.std.proofs.shelf.Lists.{drop-more, drop-all, drop-map}
 use Rattle.std.proofs.shelf.Signed.{ints}
 use Rattle.points.specs.Points.{Gaussian, gaussian, real, origin, plus, minus, times, square, norm, amount, Shape, levels}
-use Rattle.blocks.specs.declared.block.Block.{Block}
-use Rattle.blocks.specs.declared.block.ChannelRow.{ChannelRow}
+use Rattle.blocks.specs.declared.words.BlockWords.{BlockWords}
+use Rattle.blocks.specs.declared.words.ChannelRow.{ChannelRow}
 use Rattle.blocks.specs.Blocks.{row-of, matrix-of, block-of}
 use Rattle.blocks.proofs.Rows.{levels-few}
-use Rattle.codewords.specs.Distances.{dot, distance}
-use Rattle.codewords.specs.Codewords.{spelled, word-distance, target-of}
+use Rattle.codewords.specs.Codewords.{spelled}
+use Rattle.codewords.specs.Distances.{dot, distance, word-distance}
+use Rattle.codewords.specs.Targets.{target-of}
 use Rattle.codewords.proofs.Targets.{length-values, length-spelled, spelled-at}
 
 -- the diagonal's product, as a gain
@@ -57,7 +58,7 @@ length-matrix sh (suc k) [] h = let bad : ⊥ = omega (arith, h) in absurd bad
 length-matrix sh (suc k) (r ∷ rs) h = ap suc (length-matrix sh k rs (omega (arith, h)))
 
 -- one turn of the sum over the levels
-module _ (sh : Shape) (b : Block) (pts : List Gaussian) (w : List ℕ) (l : ℕ) (whole : length w ≡ levels sh) (more : l < length w) where
+module _ (sh : Shape) (b : BlockWords) (pts : List Gaussian) (w : List ℕ) (l : ℕ) (whole : length w ≡ levels sh) (more : l < length w) where
   pub turn : (sum a g : ℕ) (u s : Gaussian) (row : ChannelRow)
       → u ≡ target-of (block-of sh b) pts l (drop (l + 1) w)
       → row-of sh (levels sh - 1 - l) row ≡ getD (block-of sh b .matrix) l []

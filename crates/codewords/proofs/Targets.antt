@@ -3,17 +3,17 @@ use mathlib.Core.Path.{_≡_, refl, ap, subst, _∙_}
 use mathlib.Core.List.{List, [], _∷_}
 use Prim.Native.Nat.{ℕ, zero, suc, _+_, _<_, _≤_}
 use native.Mathlib.Omega.{arith}
-use lib.IntN.{ℤ, pos, _+ℤ_, _-ℤ_, _*ℤ_}
+use lib.IntN.{ℤ, pos, _+ℤ_, _-ℤ_}
 use lib.ListN.{length, getD, drop}
 use Rattle.std.proofs.shelf.Lists.{drop-more, drop-all, getD-map, length-map}
 use Rattle.std.proofs.shelf.Signed.{ints}
-use Rattle.points.specs.Points.{Gaussian, gaussian, origin, plus, minus, times, Within, Shape, parts}
-use Rattle.points.proofs.Reach.{natAbs-add, natAbs-sub, product-reach}
-use Rattle.blocks.specs.declared.block.ChannelRow.{ChannelRow}
+use Rattle.points.specs.Points.{Gaussian, gaussian, origin, plus, minus, times, Within, Shape, pair, parts}
+use Rattle.points.proofs.Inside.{inside-within, within-inside, times-inside, minus-inside}
+use Rattle.blocks.specs.declared.words.ChannelRow.{ChannelRow}
 use Rattle.blocks.specs.Systems.{values}
 use Rattle.blocks.specs.Blocks.{row-of}
-use Rattle.codewords.specs.Distances.{dot}
 use Rattle.codewords.specs.Codewords.{spelled}
+use Rattle.codewords.specs.Distances.{dot}
 
 shift : (a b c : ℤ) → a -ℤ (b +ℤ c) ≡ (a -ℤ b) -ℤ c
 shift a b c = omega (arith, ints)
@@ -43,14 +43,8 @@ no-entry u rs ss k h = rw (drop-all k ss h) (nothing (drop k rs) ∙ minus-origi
 -- how far one entry and one point take a target
 pub minus-near : (b : ℕ) (u r s : Gaussian) → Within b u → Within 2048 r → Within 15 s → Within (b + 61440) (minus u (times r s))
 minus-near b u r s near entry point =
-    let a = product-reach (r .re) (s .re) (entry .re) (point .re) in
-    let c = product-reach (r .im) (s .im) (entry .im) (point .im) in
-    let d = product-reach (r .re) (s .im) (entry .re) (point .im) in
-    let e = product-reach (r .im) (s .re) (entry .im) (point .re) in
-    record {
-      re = omega (arith, near .re, natAbs-sub (r .re *ℤ s .re) (r .im *ℤ s .im), natAbs-sub (u .re) (r .re *ℤ s .re -ℤ r .im *ℤ s .im));
-      im = omega (arith, near .im, natAbs-add (r .re *ℤ s .im) (r .im *ℤ s .re), natAbs-sub (u .im) (r .re *ℤ s .im +ℤ r .im *ℤ s .re));
-    }
+    inside-within pair (b + 61440) (minus u (times r s))
+    (minus-inside pair b 61440 u (times r s) (within-inside b u near) (times-inside pair r s (within-inside 2048 r entry) (within-inside 15 s point)))
 
 pub within-more : (b c : ℕ) (u : Gaussian) → b ≤ c → Within b u → Within c u
 within-more b c u h w = record { re = omega (arith, w .re); im = omega (arith, w .im) }

@@ -1,4 +1,5 @@
-pub mod Distances
 pub mod Codewords
+pub mod Distances
+pub mod Targets
 pub mod Nearest
 pub mod Numbers

@@ -1,35 +1,23 @@
 // The distance of a codeword, level by level.
 ghost use mathlib.Core.Path.{_≡_};
-ghost use Prim.Native.Nat.{_+_, _≤_, _<_, _^_};
+ghost use Prim.Native.Nat.{_<_, _^_};
 ghost use lib.ListN.{length};
 ghost use Rattle.std.specs.Options.{Cases as BySome};
 ghost use Rattle.std.specs.Orderings.{Decides};
 ghost use Rattle.std.specs.shelf.Lists.{All};
-ghost use Rattle.points.specs.Points.{Within, levels};
+ghost use Rattle.points.specs.Points.{levels};
 ghost use Rattle.blocks.specs.Blocks.{block-of};
-ghost use Rattle.codewords.specs.Codewords.{IsCodeword, Reached, word-distance, target-of};
+ghost use Rattle.codewords.specs.Codewords.{IsCodeword};
+ghost use Rattle.codewords.specs.Distances.{word-distance, Reached};
+use crate::target::target;
 use alphabets::alphabet::Alphabet;
 use alphabets::alphabet::point_or_origin;
 use blocks::block::Block;
+use blocks::words::BlockWords;
 use points::kind::Kind;
 
-// The target of a level, counted from 0: z_l less the r_lj·s_j of the levels above, whose indices are given from the next level on.
-pub fn target<B: Alphabet>(alphabet: &B, block: &Block, level: usize, above: &[usize]) -> B::Point
-    requires { ⌜ level + 1 + length (now above) ≤ levels (Point·Kind .shape) ⌝ }
-    ensures value { λ u. ⌜ Point·Kind .meaning u ≡ target-of (block-of (Point·Kind .shape) (now (block .entry))) (points (now (alphabet .entry))) level (now (above .entry)) ⌝ }
-    ensures near { λ u. ⌜ Within 1048576 (Point·Kind .meaning u) ⌝ }
-{
-    let row = block.row(level);
-    let mut u = block.received::<B::Point>(level);
-    for (k, index) in above.iter().enumerate() {
-        let entry = row.coupling::<B::Point>(k);
-        u = u.minus_product(entry, point_or_origin(alphabet, *index));
-    }
-    u
-}
-
 // The sum of the levels' amounts, for as many indices as there are levels.
-pub(crate) fn word_distance<B: Alphabet>(alphabet: &B, block: &Block, word: &[usize]) -> u64
+pub(crate) fn word_distance<B: Alphabet>(alphabet: &B, block: &BlockWords, word: &[usize]) -> u64
     requires { ⌜ length (now word) ≡ levels (Point·Kind .shape) ⌝ }
     ensures value { λ d. ⌜ d ≡ word-distance (block-of (Point·Kind .shape) (now (block .entry))) (points (now (alphabet .entry))) (now (word .entry)) ⌝ }
     ensures bound { λ d. ⌜ d < 2 ^ 40 ⌝ }
@@ -44,8 +32,12 @@ pub(crate) fn word_distance<B: Alphabet>(alphabet: &B, block: &Block, word: &[us
 }
 
 // The distance of a codeword, s_1 first; none where the list is no codeword of the alphabet.
-pub fn distance<B: Alphabet>(alphabet: &B, block: &Block, word: &[usize]) -> Option<u64>
-    ensures { λ r. ⌜ BySome r (IsCodeword (length (points (now (alphabet .entry)))) (levels (Point·Kind .shape)) (now (word .entry)) → ⊥) (λ d. Reached (block-of (Point·Kind .shape) (now (block .entry))) (points (now (alphabet .entry))) (levels (Point·Kind .shape)) (now (word .entry)) d) ⌝ }
+pub fn distance<B: Alphabet>(
+    alphabet: &B,
+    block: &Block<B::Point>,
+    word: &[usize],
+) -> Option<u64>
+    ensures { λ r. ⌜ BySome r (IsCodeword (length (points (now (alphabet .entry)))) (levels (Point·Kind .shape)) (now (word .entry)) → ⊥) (λ d. Reached (block-of (Point·Kind .shape) (now (block .entry) .words)) (points (now (alphabet .entry))) (levels (Point·Kind .shape)) (now (word .entry)) d) ⌝ }
 {
     if word.len() != <B::Point as Kind>::level_count() {
         return None;
@@ -53,7 +45,7 @@ pub fn distance<B: Alphabet>(alphabet: &B, block: &Block, word: &[usize]) -> Opt
     if !all_below(word, alphabet.size()) {
         return None;
     }
-    Some(word_distance(alphabet, block, word))
+    Some(word_distance(alphabet, block.words(), word))
 }
 
 // Whether every index is below the size.

@@ -2,3 +2,4 @@
 pub mod codeword;
 pub mod distance;
 pub mod exhaustive;
+pub mod target;

@@ -65,7 +65,7 @@ fn check_load<K: Kind>(
     number: Option<u8>,
     place: usize,
 ) -> Result<(), Fail> {
-    let told = match Block::load::<K>(extra_bits, channel, received) {
+    let told = match Block::<K>::load(extra_bits, channel, received) {
         Ok(_) => None,
         Err(fault) => Some(fault.report()),
     };

@@ -88,7 +88,7 @@ fn check_nearest<B: Alphabet>(
     least: u64,
 ) -> Result<(), Fail> {
     let channel = words(heap, rows)?;
-    let block = Block::load::<B::Point>(0, channel.as_slice(), received)?;
+    let block = Block::<B::Point>::load(0, channel.as_slice(), received)?;
     let decision = nearest(alphabet, &block);
     check_eq(decision.codeword.as_slice(), word)?;
     check_eq(decision.distance, least)?;
@@ -154,7 +154,7 @@ const LISTS: [(&[usize], Option<u64>); 9] = [
 fn distances(rt: LibcRuntime) -> Result<(), Fail> {
     let grid = Grid::new(Pam::new(PamSize::Two));
     let channel = words(rt.alloc(), &PLAIN)?;
-    let block = Block::load::<Pair>(0, channel.as_slice(), &[10, -10, 10, -10, 10, -10, 10, -10])?;
+    let block = Block::<Pair>::load(0, channel.as_slice(), &[10, -10, 10, -10, 10, -10, 10, -10])?;
     for (word, expected) in &LISTS {
         check_eq(distance(&grid, &block, word), *expected)?;
     }

@@ -34,12 +34,12 @@ fn run(rt: &impl Print) -> Result<(), TraceError> {
     trace::print_words(rt, ExtraBits::new(0)?, &CHANNEL, &RECEIVED)?;
     println!(rt, "\nWords after rounding")?;
     trace::print_words(rt, ExtraBits::new(EXTRA_BITS)?, &CHANNEL, &RECEIVED)?;
-    let block = Block::load::<Pair>(EXTRA_BITS, &CHANNEL, &RECEIVED)?;
+    let block = Block::<Pair>::load(EXTRA_BITS, &CHANNEL, &RECEIVED)?;
     println!(
         rt,
         "\nLevels: gain, couplings to the levels above, received value"
     )?;
-    trace::print_levels(rt, &block)?;
+    trace::print_levels(rt, block.words())?;
     let alphabet = Grid::new(Pam::new(PamSize::new(SIDE)?));
     let codewords = codeword_count(&alphabet);
     println!(rt, "\nNearest of {codewords} codewords")?;

@@ -4,7 +4,7 @@ use crate::error::FromAlphabetFault;
 use crate::error::FromIo;
 use crate::error::TraceError;
 use alphabets::alphabet::Alphabet;
-use blocks::block::Block;
+use blocks::words::BlockWords;
 use blocks::rounding::ExtraBits;
 use codewords::exhaustive::Decision;
 use points::pair::Pair;
@@ -47,14 +47,14 @@ fn print_list(rt: &impl Print, name: &str, bits: ExtraBits, words: &[i32]) -> io
 }
 
 // The levels of a block, from the last to the first.
-pub fn print_levels(rt: &impl Print, block: &Block) -> io::Result<()> {
+pub fn print_levels(rt: &impl Print, block: &BlockWords) -> io::Result<()> {
     for level in (0..4).rev() {
         print_level(rt, block, level)?;
     }
     Ok(())
 }
 
-fn print_level(rt: &impl Print, block: &Block, level: usize) -> io::Result<()>
+fn print_level(rt: &impl Print, block: &BlockWords, level: usize) -> io::Result<()>
     requires { ⌜ level < 4 ⌝ }
 {
     let n = level + 1;

@@ -6,7 +6,9 @@ use Rattle.std.proofs.shelf.Lists.{take-all}
 use native.Mathlib.Nat.{zero-add}
 use Rattle.blocks.specs.Blocks.{block-of}
 use Rattle.blocks.proofs.Rows.{levels-few}
-use Rattle.codewords.specs.Codewords.{spelled, word-distance, target-of}
+use Rattle.codewords.specs.Codewords.{spelled}
+use Rattle.codewords.specs.Distances.{word-distance}
+use Rattle.codewords.specs.Targets.{target-of}
 use Rattle.codewords.proofs.Targets.{length-spelled}
 use Rattle.codewords.proofs.Bounds.{distance-small}
 use Rattle.codewords.proofs.Sums.{no-level, turn}

@@ -2,8 +2,8 @@ use mathlib.Core.Path.{_≡_}
 use Prim.Native.Nat.{_+_, _*_, _≤_}
 use lib.ListN.{drop}
 use Rattle.blocks.specs.Blocks.{block-of}
-use Rattle.codewords.specs.Distances.{distance}
-use Rattle.codewords.specs.Codewords.{spelled, word-distance}
+use Rattle.codewords.specs.Codewords.{spelled}
+use Rattle.codewords.specs.Distances.{distance, word-distance}
 use Rattle.codewords.proofs.distance.word_distance.Given as given
 
 -- the levels that are summed, and those that are left

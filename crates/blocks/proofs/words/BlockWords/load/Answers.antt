@@ -4,7 +4,7 @@ use Rattle.points.specs.Points.{levels}
 use Rattle.blocks.specs.Refusals.{load-answer}
 use Rattle.blocks.specs.Blocks.{matrix-of}
 use Rattle.blocks.proofs.Loads.{loaded, bits-are, written-out}
-use Rattle.blocks.proofs.block.Block.load.Needs as need
+use Rattle.blocks.proofs.words.BlockWords.load.Needs as need
 
 pub returns-in-Ok : need.returns-in-Ok
 returns-in-Ok g c =

@@ -6,7 +6,7 @@ ghost use lib.IntN.{pos};
 ghost use lib.ListN.{getD};
 ghost use Rattle.points.specs.Points.{Shape, Within, origin, real, levels};
 ghost use Rattle.blocks.specs.Blocks.{row-of, block-of};
-use super::Block;
+use super::BlockWords;
 use super::ChannelRow;
 use points::kind::Kind;
 
@@ -29,7 +29,7 @@ impl ChannelRow {
     }
 }
 
-impl Block {
+impl BlockWords {
     pub fn row(&self, level: usize) -> &ChannelRow
         requires { ⌜ level < 8 ⌝ }
         ensures { λ r. ⌜ ((sh : Shape) → level < levels sh → row-of sh (levels sh - 1 - level) (now r) ≡ getD (block-of sh (now (self .entry)) .matrix) level []) ⌝ }

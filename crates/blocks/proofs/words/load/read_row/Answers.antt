@@ -8,7 +8,7 @@ use Rattle.std.proofs.shelf.Signed.{toZ-ofZ}
 use Rattle.blocks.specs.Rounding.{rounded}
 use Rattle.blocks.specs.Refusals.{outside-gain}
 use Rattle.blocks.proofs.Rows.{gain-refused, part-refused, row-passes, gain-reach}
-use Rattle.blocks.proofs.block.load.read_row.Needs as need
+use Rattle.blocks.proofs.words.load.read_row.Needs as need
 
 pub returns-then-is-outside-gain : need.returns-then-is-outside-gain
 returns-then-is-outside-gain c =

@@ -3,13 +3,13 @@ use mathlib.Core.List.{[], map}
 use Prim.Native.Nat.{ℕ, _+_, _-_, _<_}
 use lib.ListN.{length, getD, drop}
 use Rattle.points.specs.Points.{levels}
-use Rattle.blocks.specs.declared.block.ChannelRow.{ChannelRow}
+use Rattle.blocks.specs.declared.words.ChannelRow.{ChannelRow}
 use Rattle.blocks.specs.Rounding.{rounded}
 use Rattle.blocks.specs.Systems.{rows}
 use Rattle.blocks.specs.Refusals.{channel-fault}
 use Rattle.blocks.specs.Blocks.{row-of}
 use Rattle.blocks.proofs.Rows.{row-words}
-use Rattle.blocks.proofs.block.load.read_channel.Given as given
+use Rattle.blocks.proofs.words.load.read_channel.Given as given
 
 -- the rows that are left decide, and those that were read are kept
 abbrev pub Inv-loop-level : given.InvT-loop-level

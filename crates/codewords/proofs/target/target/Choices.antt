@@ -4,9 +4,9 @@ use Prim.Native.Nat.{_+_, _*_}
 use lib.ListN.{getD, drop}
 use Rattle.points.specs.Points.{Within, minus}
 use Rattle.blocks.specs.Blocks.{block-of}
-use Rattle.codewords.specs.Distances.{dot}
 use Rattle.codewords.specs.Codewords.{spelled}
-use Rattle.codewords.proofs.distance.target.Given as given
+use Rattle.codewords.specs.Distances.{dot}
+use Rattle.codewords.proofs.target.target.Given as given
 
 -- what is left to take away, and how far the target has come
 abbrev pub Inv-loop-k : given.InvT-loop-k

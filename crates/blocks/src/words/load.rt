@@ -14,7 +14,7 @@ ghost use Rattle.blocks.specs.Layouts.{Layout};
 ghost use Rattle.blocks.specs.Refusals.{outside-gain, row-fault, channel-count, channel-fault, answer, load-answer};
 ghost use Rattle.blocks.specs.Blocks.{matrix-of, block-of};
 ghost use Rattle.blocks.specs.Reading.{WordsRead, RowRead};
-use super::Block;
+use super::BlockWords;
 use super::ChannelRow;
 use crate::rounding::ExtraBits;
 use faults::load::LoadFault;
@@ -118,13 +118,13 @@ fn read_channel<K: Kind>(words: &[i32], bits: ExtraBits) -> Result<[ChannelRow; 
     Ok(rows)
 }
 
-impl Block {
+impl BlockWords {
     // The block of these raw words, each with so many extra bits, for points of the kind K.
     pub fn load<K: Kind>(
         extra_bits: u8,
         channel: &[i32],
         received: &[i32],
-    ) -> Result<Block, LoadFault>
+    ) -> Result<BlockWords, LoadFault>
         ensures answer { λ r. ⌜ mapped (block-of shape) (λ f. f) r ≡ load-answer shape «extra_bits» (now (channel .entry)) (now (received .entry)) ⌝ }
         ensures layout { λ _. ⌜ Layout ⌝ }
     {
@@ -137,7 +137,7 @@ impl Block {
         }
         let rows = read_channel::<K>(channel, bits)?;
         match read_words(received, bits, 0, RECEIVED_COUNT, RECEIVED_LIMIT) {
-            Ok(received) => Ok(Block { rows, received }),
+            Ok(received) => Ok(BlockWords { rows, received }),
             Err(word) => Err(LoadFault::Received { word }),
         }
     }

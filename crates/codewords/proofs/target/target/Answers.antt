@@ -6,10 +6,10 @@ use lib.ListN.{length, getD, drop}
 use Rattle.points.specs.Points.{Gaussian, Within, origin, minus, times, levels}
 use Rattle.blocks.specs.Blocks.{block-of}
 use Rattle.blocks.proofs.Rows.{levels-few}
-use Rattle.codewords.specs.Distances.{dot}
 use Rattle.codewords.specs.Codewords.{spelled}
+use Rattle.codewords.specs.Distances.{dot}
 use Rattle.codewords.proofs.Targets.{one-entry, no-entry, minus-near, within-more, entry-is, spelled-at, length-spelled}
-use Rattle.codewords.proofs.distance.target.Needs as need
+use Rattle.codewords.proofs.target.target.Needs as need
 
 pub loop-k-holds : need.loop-k-holds
 loop-k-holds g c = (refl, c .received-u .ensures .near)

@@ -11,7 +11,7 @@ use Rattle.std.proofs.shelf.Signed.{toZ-ofZ}
 use Rattle.blocks.specs.Rounding.{rounded}
 use Rattle.blocks.specs.Words.{outside, first-outside}
 use Rattle.blocks.proofs.Limits.{none-yet, within-zeros, inside-near, within-set, turn-refuses, turn-goes-on, turn-keeps}
-use Rattle.blocks.proofs.block.load.read_words.Needs as need
+use Rattle.blocks.proofs.words.load.read_words.Needs as need
 
 pub loop-k-holds : need.loop-k-holds
 loop-k-holds c = (

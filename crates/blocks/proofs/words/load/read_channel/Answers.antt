@@ -11,7 +11,7 @@ use Rattle.blocks.specs.Rounding.{rounded}
 use Rattle.blocks.specs.Systems.{rows}
 use Rattle.blocks.specs.Refusals.{channel-fault}
 use Rattle.blocks.proofs.Rows as read
-use Rattle.blocks.proofs.block.load.read_channel.Needs as need
+use Rattle.blocks.proofs.words.load.read_channel.Needs as need
 
 -- the words right of the diagonal, as the code counts them
 others-are : (p q : ℕ) {p′ q′ : ℕ} (k : ℕ) → p ≡ p′ → q ≡ q′ → p * (q - 1 - k) ≡ p′ * (q′ - 1 - k)

@@ -5,7 +5,7 @@ use lib.ListN.{getD}
 use Rattle.points.specs.Points.{Within, origin, parts, value-at}
 use Rattle.blocks.specs.Blocks.{row-of}
 use Rattle.blocks.proofs.Rows.{value-of-many, value-near}
-use Rattle.blocks.proofs.block.ChannelRow.coupling.Needs as need
+use Rattle.blocks.proofs.words.ChannelRow.coupling.Needs as need
 
 pub returns : need.returns
 returns g c =

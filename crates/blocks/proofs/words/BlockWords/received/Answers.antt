@@ -3,7 +3,7 @@ use mathlib.Core.Path.{_≡_, sym, ap, subst, _∙_}
 use Prim.Native.Nat.{_+_, _*_}
 use Rattle.points.specs.Points.{Within, levels, parts, value-at}
 use Rattle.blocks.proofs.Rows.{value-of-many, value-near}
-use Rattle.blocks.proofs.block.Block.received.Needs as need
+use Rattle.blocks.proofs.words.BlockWords.received.Needs as need
 
 pub returns : need.returns
 returns g c =

@@ -7,7 +7,7 @@ use borrow.Author.Needs.{needs}
 use Rattle.std.proofs.shelf.Lists.{getD-map}
 use Rattle.std.proofs.shelf.Signed.{toZ-ofZ}
 use Rattle.blocks.specs.Rounding.{rounded}
-use Rattle.blocks.proofs.block.load.rounded_word.Needs as need
+use Rattle.blocks.proofs.words.load.rounded_word.Needs as need
 
 pub returns : need.returns
 returns c =

@@ -6,7 +6,7 @@ use lib.IntN.{pos}
 use lib.ListN.{length, getD}
 use Rattle.blocks.specs.Rounding.{rounded}
 use Rattle.blocks.specs.Words.{first-outside, all-within}
-use Rattle.blocks.proofs.block.load.read_words.Given as given
+use Rattle.blocks.proofs.words.load.read_words.Given as given
 
 -- the places that are left decide, and those that were read are kept
 abbrev pub Inv-loop-k : given.InvT-loop-k
