@@ -1,15 +1,15 @@
 -- The points of a grid, and that they are those of an alphabet of pairs.
-use mathlib.Core.Path.{_≡_, refl, sym, _∙_, ap}
+use mathlib.Core.Path.{_≡_, refl, sym, _∙_, ap, ap₂}
 use mathlib.Core.List.{List}
 use Prim.Native.Nat.{ℕ, _+_, _*_, _/_, _%_, _<_}
 use native.Mathlib.Omega.{arith}
 use lib.IntN.{ℤ}
 use lib.ListN.{length, getD}
 use Rattle.std.proofs.shelf.Counted.{length-map-counting, getD-map-counting}
-use Rattle.std.proofs.shelf.Bits.{mul-le, div-below, mod-below, div-add-mod'}
+use Rattle.std.proofs.shelf.Bits.{mul-le, mul-add-lt, div-mul-add, mod-mul-add, div-below, mod-below, div-add-mod'}
 use Rattle.points.specs.Points.{Gaussian, gaussian, real, origin, whole, pair}
 use Rattle.alphabets.specs.Alphabets.{Lawful}
-use Rattle.alphabets.specs.Grids.{grid-point, grid-points}
+use Rattle.alphabets.specs.Grids.{grid-point, grid-points, Grid-order}
 
 grid-length : (ps : List Gaussian) → length (grid-points ps) ≡ length ps * length ps
 unfolding grid-points
@@ -66,3 +66,10 @@ grid-held ps n k a b e h p q =
     let row : real a ≡ getD ps (k / length ps) origin = rw e at p in
     let column : real b ≡ getD ps (k % length ps) origin = rw e at q in
     rw (grid-at ps k (rw e at h), ← row, ← column) refl
+
+-- the quotient of i·L + j by L is i, and the remainder is j
+pub grid-order : Grid-order
+grid-order ps i j hi hj =
+    let n = length ps in
+    let k = i * n + j in
+    grid-at ps k (mul-add-lt i n j n hi hj) ∙ ap₂ (λ (q r : ℕ). gaussian (getD ps q origin .re) (getD ps r origin .re)) (div-mul-add i n j hj) (mod-mul-add i n j hj)

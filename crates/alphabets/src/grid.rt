@@ -1,6 +1,6 @@
 // A grid: every pair of points of a whole alphabet.
 ghost use mathlib.Core.Path.{_≡_};
-ghost use Rattle.alphabets.specs.Grids.{grid-points};
+ghost use Rattle.alphabets.specs.Grids.{grid-points, Grid-order};
 use crate::alphabet::Alphabet;
 use crate::alphabet::point_or_origin;
 use faults::alphabet::AlphabetFault;
@@ -17,7 +17,8 @@ pub struct Grid<P> {
 
 impl<P> Grid<P> {
     pub fn new(side: P) -> Grid<P>
-        ensures { λ g. ⌜ g .side ≡ side ⌝ }
+        ensures side { λ g. ⌜ g .side ≡ side ⌝ }
+        ensures order { λ _. ⌜ Grid-order ⌝ }
     {
         Grid { side }
     }

@@ -1,19 +1,27 @@
 -- Rounding stays within a word.
 use mathlib.Core.Path.{_≡_, ap}
-use Prim.Native.Nat.{ℕ, zero, suc, _+_, _-_, _^_, _≤_, _<_}
+use Prim.Native.Nat.{ℕ, zero, suc, _+_, _-_, _/_, _%_, _^_, _≤_, _<_}
 use native.Mathlib.Omega.{arith}
+use native.Mathlib.Nat.{mul-comm, mul-suc}
 use lib.IntN.{ℤ, pos, negsuc, natAbs, _+ℤ_}
 use lib.Signed.{mag}
 use mir.Syntax.{w32, w64}
 use mir.Val.{SFits, toZ, ofZ}
-use Rattle.std.proofs.shelf.Bits.{div-below, pow-below}
-use Rattle.std.proofs.shelf.Signed.{toZ-ofZ}
+use Rattle.std.proofs.shelf.Bits.{div-below, div-add-mod', mod-below, pow-below}
+use Rattle.std.proofs.shelf.Signed.{ints, toZ-ofZ}
 use Rattle.points.proofs.Reach.{natAbs-add}
-use Rattle.blocks.specs.Rounding.{down, rounded}
+use Rattle.blocks.specs.Rounding.{down, Rounds-down, rounded}
 
 pub rounded-is : (e : ℕ) (w : ℤ) → 0 < e → down (w +ℤ pos (2 ^ (e - 1))) (2 ^ e) ≡ rounded e w
 rounded-is zero w h = let bad : ⊥ = omega arith in absurd bad
 rounded-is (suc k) w h = let p : suc k - 1 ≡ k = omega arith in ap (λ (j : ℕ). down (w +ℤ pos (2 ^ j)) (2 ^ suc k)) p
+
+-- a quotient and a rest below the divisor
+pub rounds-down : Rounds-down
+rounds-down (pos n) d h = (n % d, mod-below n d h, ap pos (omega (arith, div-add-mod' n d, mul-comm d (n / d))))
+rounds-down (negsuc n) d h =
+    let r = mod-below n d h in
+    (d - 1 - n % d, omega arith, omega (arith, ints, div-add-mod' n d, mul-suc d (n / d), mul-comm d (n / d)))
 
 -- a quotient by 2 or more of what is a little larger than a word
 quotient-fits : (x : ℤ) (d : ℕ) → mag x < 4294967296 → 1 < d → SFits w32 (down x d)

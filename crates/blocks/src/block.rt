@@ -18,11 +18,7 @@ pub struct Block<K> {
 
 impl<K: Kind> Block<K> {
     // The block of these raw words, each with so many extra bits.
-    pub fn load(
-        extra_bits: u8,
-        channel: &[i32],
-        received: &[i32],
-    ) -> Result<Block<K>, LoadFault>
+    pub fn load(extra_bits: u8, channel: &[i32], received: &[i32]) -> Result<Block<K>, LoadFault>
         ensures answer { λ r. ⌜ mapped (λ b. block-of shape (b .words)) (λ f. f) r ≡ load-answer shape «extra_bits» (now (channel .entry)) (now (received .entry)) ⌝ }
         ensures layout { λ _. ⌜ Layout ⌝ }
     {

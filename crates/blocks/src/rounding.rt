@@ -3,7 +3,7 @@ ghost use mathlib.Core.Path.{_≡_};
 ghost use Prim.Native.Nat.{_<_, _≤_, _-_, _^_};
 ghost use lib.IntN.{pos};
 ghost use Rattle.std.specs.Results.{mapped};
-ghost use Rattle.blocks.specs.Rounding.{down, rounded, bits-answer};
+ghost use Rattle.blocks.specs.Rounding.{down, Rounds-down, rounded, bits-answer};
 use faults::load::LoadFault;
 
 // A number of extra bits: `ExtraBits::new` refuses more than 8.
@@ -25,7 +25,8 @@ impl ExtraBits {
 
     // The word without its extra bits, to the nearest number, halves up.
     pub fn round(self, word: i32) -> i32
-        ensures { λ r. ⌜ r ≡ rounded (self .count) word ⌝ }
+        ensures value { λ r. ⌜ r ≡ rounded (self .count) word ⌝ }
+        ensures down { λ _. ⌜ Rounds-down ⌝ }
     {
         if self.count == 0 {
             return word;

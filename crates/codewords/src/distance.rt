@@ -32,11 +32,7 @@ pub(crate) fn word_distance<B: Alphabet>(alphabet: &B, block: &BlockWords, word:
 }
 
 // The distance of a codeword, s_1 first; none where the list is no codeword of the alphabet.
-pub fn distance<B: Alphabet>(
-    alphabet: &B,
-    block: &Block<B::Point>,
-    word: &[usize],
-) -> Option<u64>
+pub fn distance<B: Alphabet>(alphabet: &B, block: &Block<B::Point>, word: &[usize]) -> Option<u64>
     ensures { λ r. ⌜ BySome r (IsCodeword (length (points (now (alphabet .entry)))) (levels (Point·Kind .shape)) (now (word .entry)) → ⊥) (λ d. Reached (block-of (Point·Kind .shape) (now (block .entry) .words)) (points (now (alphabet .entry))) (levels (Point·Kind .shape)) (now (word .entry)) d) ⌝ }
 {
     if word.len() != <B::Point as Kind>::level_count() {

@@ -11,7 +11,12 @@ use blocks::words::BlockWords;
 use points::kind::Kind;
 
 // The target of a level, counted from 0: z_l less the r_lj·s_j of the levels above, whose indices are given from the next level on.
-pub fn target<B: Alphabet>(alphabet: &B, block: &BlockWords, level: usize, above: &[usize]) -> B::Point
+pub fn target<B: Alphabet>(
+    alphabet: &B,
+    block: &BlockWords,
+    level: usize,
+    above: &[usize],
+) -> B::Point
     requires { ⌜ level + 1 + length (now above) ≤ levels (Point·Kind .shape) ⌝ }
     ensures value { λ u. ⌜ Point·Kind .meaning u ≡ target-of (block-of (Point·Kind .shape) (now (block .entry))) (points (now (alphabet .entry))) level (now (above .entry)) ⌝ }
     ensures near { λ u. ⌜ Within 1048576 (Point·Kind .meaning u) ⌝ }

@@ -7,7 +7,7 @@ use alphabets::pam::PamAlphabet;
 use alphabets::pam::PamSize;
 use blocks::block::Block;
 use codewords::distance::distance;
-use codewords::exhaustive::nearest;
+use codewords::exhaustive::decide;
 use faults::load::LoadFaultDebug;
 use points::kind::Kind;
 use points::pair::Pair;
@@ -89,7 +89,7 @@ fn check_nearest<B: Alphabet>(
 ) -> Result<(), Fail> {
     let channel = words(heap, rows)?;
     let block = Block::<B::Point>::load(0, channel.as_slice(), received)?;
-    let decision = nearest(alphabet, &block);
+    let decision = decide(alphabet, 0, channel.as_slice(), received)?;
     check_eq(decision.codeword.as_slice(), word)?;
     check_eq(decision.distance, least)?;
     check_eq(distance(alphabet, &block, word), Some(least))

@@ -17,7 +17,7 @@ use alphabets::pam::PamSize;
 use blocks::block::Block;
 use blocks::rounding::ExtraBits;
 use codewords::exhaustive::codeword_count;
-use codewords::exhaustive::nearest;
+use codewords::exhaustive::decide;
 use points::pair::Pair;
 use points::pair::PairKind;
 
@@ -43,5 +43,6 @@ fn run(rt: &impl Print) -> Result<(), TraceError> {
     let alphabet = Grid::new(Pam::new(PamSize::new(SIDE)?));
     let codewords = codeword_count(&alphabet);
     println!(rt, "\nNearest of {codewords} codewords")?;
-    trace::print_decision(rt, &alphabet, &nearest(&alphabet, &block))
+    let decision = decide(&alphabet, EXTRA_BITS, &CHANNEL, &RECEIVED)?;
+    trace::print_decision(rt, &alphabet, &decision)
 }

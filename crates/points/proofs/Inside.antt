@@ -2,10 +2,9 @@
 use Prim.Native.Nat.{ℕ, _+_, _*_, _≤_}
 use mathlib.Core.Path.{_≡_, refl}
 use native.Mathlib.Omega.{arith}
-use lib.IntN.{ℤ, natAbs, _*ℤ_}
-use Rattle.std.proofs.shelf.Bits.{mul-le}
+use lib.IntN.{natAbs, _*ℤ_}
 use Rattle.points.specs.Points.{Gaussian, origin, plus, minus, times, norm, Within, Shape, whole, pair}
-use Rattle.points.proofs.Reach.{natAbs-add, natAbs-sub, natAbs-mul, square-reach}
+use Rattle.points.proofs.Reach.{natAbs-add, natAbs-sub, product-le, square-reach}
 
 -- what b allows of an imaginary part
 abbrev pub imaginary : Shape → ℕ → ℕ
@@ -38,9 +37,6 @@ span pair = 61440
 
 pub origin-inside : (sh : Shape) (b : ℕ) → Inside sh b origin
 origin-inside sh b = record { re = omega arith; im = omega arith }
-
-product-le : (r s : ℤ) (m n : ℕ) → natAbs r ≤ m → natAbs s ≤ n → natAbs (r *ℤ s) ≤ m * n
-product-le r s m n h k = rw natAbs-mul (mul-le (natAbs r) (natAbs s) m n h k)
 
 products : (sh : Shape) → (2048 * 15 + imaginary sh 2048 * imaginary sh 15 ≡ span sh) × (2048 * imaginary sh 15 + imaginary sh 2048 * 15 ≡ imaginary sh (span sh))
 products whole = (refl, refl)

@@ -14,7 +14,7 @@ natAbs-neg (pos zero) = refl
 natAbs-neg (pos (suc n)) = refl
 natAbs-neg (negsuc n) = refl
 
-pub natAbs-mul : (a b : ℤ) → natAbs (a *ℤ b) ≡ natAbs a * natAbs b
+natAbs-mul : (a b : ℤ) → natAbs (a *ℤ b) ≡ natAbs a * natAbs b
 natAbs-mul (pos a) (pos b) = refl
 natAbs-mul (pos a) (negsuc b) = natAbs-neg (pos (a * suc b))
 natAbs-mul (negsuc a) (pos b) = natAbs-neg (pos (suc a * b))
@@ -32,9 +32,12 @@ natAbs-sub (pos a) (negsuc b) = omega (arith, ints)
 natAbs-sub (negsuc a) (pos b) = omega (arith, ints)
 natAbs-sub (negsuc a) (negsuc b) = omega (arith, ints)
 
+pub product-le : (r s : ℤ) (m n : ℕ) → natAbs r ≤ m → natAbs s ≤ n → natAbs (r *ℤ s) ≤ m * n
+product-le r s m n h k = rw natAbs-mul (mul-le (natAbs r) (natAbs s) m n h k)
+
 -- an entry's part times a point's
 pub product-reach : (r s : ℤ) → natAbs r ≤ 2048 → natAbs s ≤ 15 → natAbs (r *ℤ s) ≤ 30720
-product-reach r s h k = rw natAbs-mul (mul-le (natAbs r) (natAbs s) 2048 15 h k)
+product-reach r s h k = product-le r s 2048 15 h k
 
 pub square-reach : (z : ℤ) (b : ℕ) → natAbs z ≤ b → square z ≤ b * b
 square-reach z b h = mul-le (natAbs z) (natAbs z) b b h h

@@ -20,13 +20,15 @@ use crate::rounding::ExtraBits;
 use faults::load::LoadFault;
 use points::kind::Kind;
 
-// The limits of rounded words: a diagonal entry is at most MOST_GAIN, and a part lies in -limit to limit - 1.
+// The most that a diagonal entry may be.
 const MOST_GAIN: i32 = 2047;
 
+// Another part of the channel, and a received part, lies in -limit to limit - 1.
 const PART_LIMIT: u16 = 2048;
 
 const RECEIVED_LIMIT: u16 = 32768;
 
+// How many words the received list has, for either kind of point.
 const RECEIVED_COUNT: usize = 8;
 
 fn is_outside(word: i32, limit: u16) -> bool
@@ -119,7 +121,7 @@ fn read_channel<K: Kind>(words: &[i32], bits: ExtraBits) -> Result<[ChannelRow; 
 }
 
 impl BlockWords {
-    // The block of these raw words, each with so many extra bits, for points of the kind K.
+    // The words of a block of points of the kind K, from raw words with so many extra bits.
     pub fn load<K: Kind>(
         extra_bits: u8,
         channel: &[i32],

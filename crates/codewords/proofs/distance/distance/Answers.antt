@@ -20,7 +20,7 @@ returns g c =
     let pts = g .B·Alphabet .points (c .args .alphabet .now) in
     let w = c .args .word .now in
     record {
-  codeword = (c .if-word-level-count .left ∙ c .level-count .ensures, subst (λ (m : ℕ). All (λ i. i < m) (c .args .word .now)) (c .size .ensures) (c .all-below .ensures .0 (c .if-not-all-below .left)));
-  value = c .word-distance .ensures .value ∙ ap (λ (x : BlockWords). word-distance (block-of sh x) pts w) (c .words .ensures);
-  bound = c .word-distance .ensures .bound;
-}
+      codeword = (c .if-word-level-count .left ∙ c .level-count .ensures, subst (λ (m : ℕ). All (λ i. i < m) (c .args .word .now)) (c .size .ensures) (c .all-below .ensures .0 (c .if-not-all-below .left)));
+      value = c .word-distance .ensures .value ∙ ap (λ (x : BlockWords). word-distance (block-of sh x) pts w) (c .words .ensures);
+      bound = c .word-distance .ensures .bound;
+    }

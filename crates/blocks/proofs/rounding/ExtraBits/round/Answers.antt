@@ -7,7 +7,7 @@ use mir.Val.{SFits, toZ, ofZ}
 use borrow.Author.Needs.{needs}
 use Rattle.std.proofs.shelf.Signed.{toZ-ofZ}
 use Rattle.blocks.specs.Rounding.{down}
-use Rattle.blocks.proofs.Rounds.{rounded-is, rounded-fits, sum-held}
+use Rattle.blocks.proofs.Rounds.{rounds-down, rounded-is, rounded-fits, sum-held}
 use Rattle.blocks.proofs.rounding.ExtraBits.round.Needs as need
 
 some : (c : need.After-quotient) → 0 < c .args .self .count
@@ -22,6 +22,9 @@ quotient-is c =
 quotient-fits : (c : need.After-quotient) → SFits w32 (c .quotient .result)
 quotient-fits c = subst (SFits w32) (sym (quotient-is c)) (rounded-fits (c .args .self .count) (c .args .word) (some c) (c .args .self .few) (c .fits .word))
 
+pub returns-then-self-eq0 : need.returns-then-self-eq0
+returns-then-self-eq0 c = record { value = search needs; down = rounds-down }
+
 pub cast-result : need.cast-result
 cast-result c =
     let wide : SFits w64 (c .quotient .result) = search needs in
@@ -31,4 +34,7 @@ pub returns : need.returns
 returns c =
     let wide : SFits w64 (c .quotient .result) = search needs in
     let narrow = quotient-fits c in
-    simp toZ-ofZ (quotient-is c ∙ rounded-is (c .args .self .count) (c .args .word) (some c))
+    record {
+      value = simp toZ-ofZ (quotient-is c ∙ rounded-is (c .args .self .count) (c .args .word) (some c));
+      down = rounds-down;
+    }

@@ -16,4 +16,4 @@ returns c =
     let i = c .args .place in
     let fits : SFits w32 (getD raw i (pos 0)) = search needs in
     let kept : SFits w32 (c .round .result) = search needs in
-    toZ-ofZ w32 (c .round .result) kept ∙ c .round .ensures ∙ ap (rounded e) (toZ-ofZ w32 (getD raw i (pos 0)) fits) ∙ sym (getD-map (rounded e) raw i (pos 0) (pos 0) (c .pre))
+    toZ-ofZ w32 (c .round .result) kept ∙ c .round .ensures .value ∙ ap (rounded e) (toZ-ofZ w32 (getD raw i (pos 0)) fits) ∙ sym (getD-map (rounded e) raw i (pos 0) (pos 0) (c .pre))
