@@ -36,6 +36,9 @@ def own_names():
             m = DECLARED.match(line)
             if not m or "-" not in m["name"] or "=" in m["binders"] or m["type"].startswith("goal."):
                 continue
+            # a line of a proof that cites a lemma of the library
+            if m["binders"].startswith(" _"):
+                continue
             names[m["name"]] = respelled(m["name"])
     return names
 

@@ -38,7 +38,7 @@ pub trait Alphabet {
 
 // The point at an index, and the origin where the alphabet has none.
 pub fn point_or_origin<B: Alphabet>(alphabet: &B, index: usize) -> B::Point
-    ensures value { B.Point.Kind.meaning result ≡ slice_index_or (points alphabet.now) index origin }
+    ensures value { B.Point.Kind.meaning result ≡ slice_index_or (B.points alphabet.now) index origin }
     ensures near { Within 15 (B.Point.Kind.meaning result) }
 {
     match alphabet.point(index) {

@@ -1,3 +1,5 @@
 // Alphabets: lists of distinct points, each point known by its index.
+#![tactic(auto)]
+
 pub mod alphabet;
 pub mod question;

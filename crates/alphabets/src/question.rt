@@ -13,7 +13,7 @@ pub const GAIN_LIMIT: u32 = 2047;
 
 // Refuses a target or a gain that is out of range.
 pub fn ask<K: Kind>(target: K, gain: u32) -> Result<(), AlphabetFault>
-    ensures { result ≡ answer (rank_fault (meaning target) gain) tt }
+    ensures { result ≡ answer (rank_fault (K.meaning target) gain) tt }
 {
     if target.within(TARGET_LIMIT) && gain <= GAIN_LIMIT {
         Ok(())

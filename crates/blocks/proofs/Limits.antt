@@ -1,6 +1,6 @@
 -- Words read one after another, each within its limit.
 use Rattle.std.proofs.Common.{◌≡◌, ℕ, zero, suc, ◌+◌, ◌-◌, ◌<◌, ◌≤◌, true, false, leb, ◌≢◌, List, [], ◌∷◌, length, get_or, set, ℤ, pos, negsuc, nat_abs, Some, sym, refl, ap, ◌∙◌, arith, get_or-set_other, get_or-set_same, below_more}
-use Rattle.std.proofs.lemmas.Bool.{and_parts, and_from, le-leb, leb-true, cond-true, cond_false}
+use Rattle.std.proofs.lemmas.Bool.{and_parts, and_from, le-leb, leb-true, cond-true, cond-false}
 use Rattle.std.proofs.lemmas.Bool.Decides.{nat_tests}
 use Rattle.blocks.specs.Words.{outside, first_outside, all_within}
 
@@ -14,7 +14,7 @@ module _ (b : ℕ) (ws : List ℤ) where
   outside_later zero i h t = let bad : ⊥ = omega arith in absurd bad
   outside_later (suc n) i h t =
       let e : suc n - 1 ≡ n = omega arith in
-      cond_false _ _ _ t ∙ ap (λ (m : ℕ). first_outside b m (i + 1) ws) (sym e)
+      cond-false _ _ _ t ∙ ap (λ (m : ℕ). first_outside b m (i + 1) ws) (sym e)
 
 pub inside_near : (b : ℕ) (w : ℤ) → outside b w ≡ false → nat_abs w ≤ b
 inside_near zero (pos n) h = grind (arith, nat_tests)

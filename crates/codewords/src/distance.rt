@@ -14,8 +14,8 @@ use points::kind::Kind;
 
 // The sum of the levels' amounts, for as many indices as there are levels.
 pub(crate) fn word_distance<B: Alphabet>(alphabet: &B, block: &BlockWords, word: &[usize]) -> u64
-    requires { length word.now ≡ levels Point-as-Kind.shape }
-    ensures value { result ≡ distance_of (block_of Point-as-Kind.shape block.now) (points alphabet.now) word.now }
+    requires { length word.now ≡ levels B.Point.Kind.shape }
+    ensures value { result ≡ distance_of (block_of B.Point.Kind.shape block.now) (B.points alphabet.now) word.now }
     ensures bound { result < 2 ^ 40 }
 {
     let mut sum = 0;
@@ -29,7 +29,7 @@ pub(crate) fn word_distance<B: Alphabet>(alphabet: &B, block: &BlockWords, word:
 
 // The distance of a codeword, s_1 first; none where the list is no codeword of the alphabet.
 pub fn distance<B: Alphabet>(alphabet: &B, block: &Block<B::Point>, word: &[usize]) -> Option<u64>
-    ensures { MatchOption result (IsCodeword (length (points alphabet.now)) (levels B.Point.Kind.shape) word.now → ⊥) (λ d. Reached (block_of B.Point.Kind.shape block.now.words) (points alphabet.now) (levels B.Point.Kind.shape) word.now d) }
+    ensures { MatchOption result (IsCodeword (length (B.points alphabet.now)) (levels B.Point.Kind.shape) word.now → ⊥) (λ d. Reached (block_of B.Point.Kind.shape block.now.words) (B.points alphabet.now) (levels B.Point.Kind.shape) word.now d) }
 {
     if word.len() != <B::Point as Kind>::level_count() {
         return None;

@@ -26,7 +26,7 @@ pub fn decide<B: Alphabet>(
     channel: &[i32],
     received: &[i32],
 ) -> Result<Decision, LoadFault>
-    ensures { Decided (load_fault Point-as-Kind.shape extra_bits channel.now received.now) result (λ d. Nearest (rounded_system Point-as-Kind.shape extra_bits channel.now received.now) (points alphabet.now) (levels Point-as-Kind.shape) (word_of d.codeword) d.distance) }
+    ensures { Decided (load_fault B.Point.Kind.shape extra_bits channel.now received.now) result (λ d. Nearest (rounded_system B.Point.Kind.shape extra_bits channel.now received.now) (B.points alphabet.now) (levels B.Point.Kind.shape) (word_of d.codeword) d.distance) }
 {
     let block = Block::<B::Point>::load(extra_bits, channel, received)?;
     Ok(nearest(alphabet, &block))
@@ -34,7 +34,7 @@ pub fn decide<B: Alphabet>(
 
 // How many codewords there are.
 pub fn codeword_count<B: Alphabet>(alphabet: &B) -> usize
-    ensures value { result ≡ length (points alphabet.now) ^ levels Point-as-Kind.shape }
+    ensures value { result ≡ length (B.points alphabet.now) ^ levels B.Point.Kind.shape }
     ensures bound { result ≤ 2 ^ 32 }
 {
     alphabet
@@ -44,7 +44,7 @@ pub fn codeword_count<B: Alphabet>(alphabet: &B) -> usize
 
 // The nearest codeword, the earlier one among equals.
 pub fn nearest<B: Alphabet>(alphabet: &B, block: &Block<B::Point>) -> Decision
-    ensures nearest { Nearest (block_of B.Point.Kind.shape block.now.words) (points alphabet.now) (levels B.Point.Kind.shape) (word_of result.codeword) result.distance }
+    ensures nearest { Nearest (block_of B.Point.Kind.shape block.now.words) (B.points alphabet.now) (levels B.Point.Kind.shape) (word_of result.codeword) result.distance }
     ensures settled { Settled }
 {
     let words = block.words();

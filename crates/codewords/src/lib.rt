@@ -1,4 +1,6 @@
 // Codewords: their distance, their order, and the nearest of them by looking at every one.
+#![tactic(auto)]
+
 pub mod codeword;
 pub mod distance;
 pub mod exhaustive;

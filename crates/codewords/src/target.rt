@@ -16,7 +16,7 @@ pub fn target<B: Alphabet>(
     above: &[usize],
 ) -> B::Point
     requires { level + 1 + length above.now ≤ levels B.Point.Kind.shape }
-    ensures value { B.Point.Kind.meaning result ≡ target_of (block_of B.Point.Kind.shape block.now) (points alphabet.now) level above.now }
+    ensures value { B.Point.Kind.meaning result ≡ target_of (block_of B.Point.Kind.shape block.now) (B.points alphabet.now) level above.now }
     ensures near { Within 1048576 (B.Point.Kind.meaning result) }
 {
     let row = block.row(level);

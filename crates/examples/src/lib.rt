@@ -1,9 +1,11 @@
 // Examples of every rule, as tests.
-#[cfg(test)]
-mod alphabets;
+#![tactic(auto)]
+
 #[cfg(test)]
 mod loading;
 #[cfg(test)]
 mod nearest;
+#[cfg(test)]
+mod points_of_alphabets;
 #[cfg(test)]
 mod rounding;

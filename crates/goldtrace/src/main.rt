@@ -1,4 +1,6 @@
 // One block of the golden code, from its raw words to the nearest codeword.
+#![tactic(auto)]
+
 use crate::error::TraceError;
 use crate::sample::{CHANNEL, EXTRA_BITS, RECEIVED, SIDE};
 use alphabets::alphabet::Alphabet;

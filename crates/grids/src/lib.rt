@@ -1,3 +1,5 @@
 // Grids: pair alphabets over any whole alphabet.
+#![tactic(auto)]
+
 pub mod grid;
 mod weigh;

@@ -1,3 +1,5 @@
 // PAM as an alphabet.
+#![tactic(auto)]
+
 pub mod pam;
 mod steps;

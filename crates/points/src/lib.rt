@@ -1,4 +1,6 @@
 // Points: whole numbers and complex numbers with whole parts, under one trait.
+#![tactic(auto)]
+
 pub mod kind;
 pub mod pair;
 mod part;

@@ -1,4 +1,6 @@
 // Examples of rank, and of what tables and questions refuse, as tests.
+#![tactic(auto)]
+
 #[cfg(test)]
 mod refusals;
 #[cfg(test)]

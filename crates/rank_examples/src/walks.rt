@@ -69,7 +69,7 @@ fn sorted<B: Alphabet>(
         let im = squared_offset(target.imaginary(), gain, point.imaginary());
         order.push((re.wrapping_add(im), index))?;
     }
-    order.sort();
+    order.sort()?;
     Ok(order)
 }
 

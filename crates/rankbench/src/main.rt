@@ -3,6 +3,8 @@
 //   rankbench                                      whole rankings, in numbers that are the same on every run
 //   rankbench times                                nanoseconds for each question
 //   rankbench first|next|nothing ALPHABET SIZE N   one alphabet asked N times, for a profiler
+#![tactic(auto)]
+
 use crate::ask::{Question, ask, digest};
 use crate::error::BenchError;
 use crate::task::{Family, Task};

@@ -1,2 +1,4 @@
 // The whole ranking of an alphabet, for whoever wants to see it.
+#![tactic(auto)]
+
 pub mod ranking;

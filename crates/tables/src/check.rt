@@ -11,7 +11,7 @@ const PART_LIMIT: u32 = 15;
 
 // Whether the point is one of the points.
 fn holds<K: Kind>(points: &[K], point: K) -> bool
-    ensures { result ≡ among (meaning point) (map meaning points.now) }
+    ensures { result ≡ among (K.meaning point) (map K.meaning points.now) }
 {
     for other in points {
         if other.same(point) {
@@ -23,7 +23,7 @@ fn holds<K: Kind>(points: &[K], point: K) -> bool
 
 // Refuses a list with too few or too many points, a part out of range, or two equal points.
 pub fn check<K: Kind>(points: &[K]) -> Result<(), AlphabetFault>
-    ensures answer { result ≡ answer (table_fault shape (map meaning points.now)) tt }
+    ensures answer { result ≡ answer (table_fault K.shape (map K.meaning points.now)) tt }
     ensures law { AcceptsLawful }
     ensures first { TellsFirst }
 {

@@ -9,9 +9,9 @@ use ranks::key::{NO_KEY, lesser, rank_key};
 
 // The least key that is not below the floor, or NO_KEY.
 pub(crate) fn least_from<K: Kind>(points: &[K], target: K, gain: u32, floor: u64) -> u64
-    requires lawful { Lawful shape (map meaning points.now) }
-    requires asked { askable (meaning target) gain ≡ true }
-    ensures { Least (amounts (map meaning points.now) (meaning target) gain) floor (length points.now) result }
+    requires lawful { Lawful K.shape (map K.meaning points.now) }
+    requires asked { askable (K.meaning target) gain ≡ true }
+    ensures { Least (amounts (map K.meaning points.now) (K.meaning target) gain) floor (length points.now) result }
 {
     let mut least = NO_KEY;
     for (index, point) in points.iter().enumerate() {

@@ -1,4 +1,6 @@
 // Tables: alphabets over a list of points that the caller holds.
+#![tactic(auto)]
+
 pub mod check;
 mod least;
 pub mod list;

@@ -17,9 +17,9 @@ impl ChannelRow {
 
     // The entry number `k` right of the diagonal.
     pub fn coupling<K: Kind>(&self, k: usize) -> K
-        requires { k + 1 < levels shape }
-        ensures value { (n : ℕ) → k < n → meaning result ≡ slice_index_or (row_of shape n self.now) (k + 1) origin }
-        ensures near { Within 2048 (meaning result) }
+        requires { k + 1 < levels K.shape }
+        ensures value { (n : ℕ) → k < n → K.meaning result ≡ slice_index_or (row_of K.shape n self.now) (k + 1) origin }
+        ensures near { Within 2048 (K.meaning result) }
     {
         K::read(&self.words, k)
     }
@@ -34,9 +34,9 @@ impl BlockWords {
     }
 
     pub fn received<K: Kind>(&self, level: usize) -> K
-        requires { level < levels shape }
-        ensures value { meaning result ≡ slice_index_or (block_of shape self.now).received level origin }
-        ensures near { Within 32768 (meaning result) }
+        requires { level < levels K.shape }
+        ensures value { K.meaning result ≡ slice_index_or (block_of K.shape self.now).received level origin }
+        ensures near { Within 32768 (K.meaning result) }
     {
         K::read(&self.received, level)
     }

@@ -96,8 +96,8 @@ fn read_row(
 
 // The rows of the channel, level 1 first.
 fn read_channel<K: Kind>(words: &[i32], bits: ExtraBits) -> Result<[ChannelRow; 8], LoadFault>
-    requires { length words.now ≡ channel_word_count shape }
-    ensures rows { result_map_both (matrix_of shape (levels shape)) (λ f. f) result ≡ answer (channel_fault shape (levels shape) 0 (map (rounded bits.count) words.now)) (rows_of shape (levels shape) 0 (map (rounded bits.count) words.now)) }
+    requires { length words.now ≡ channel_word_count K.shape }
+    ensures rows { result_map_both (matrix_of K.shape (levels K.shape)) (λ f. f) result ≡ answer (channel_fault K.shape (levels K.shape) 0 (map (rounded bits.count) words.now)) (rows_of K.shape (levels K.shape) 0 (map (rounded bits.count) words.now)) }
     ensures eight { MatchResult result (λ rs. length rs ≡ 8) (λ _. ⊥ → ⊥) }
 {
     let mut rows = [ChannelRow {
@@ -122,7 +122,7 @@ impl BlockWords {
         channel: &[i32],
         received: &[i32],
     ) -> Result<BlockWords, LoadFault>
-        ensures answer { result_map_both (block_of shape) (λ f. f) result ≡ load_answer shape extra_bits channel.now received.now }
+        ensures answer { result_map_both (block_of K.shape) (λ f. f) result ≡ load_answer K.shape extra_bits channel.now received.now }
         ensures layout { Layout }
     {
         let bits = ExtraBits::new(extra_bits)?;
@@ -142,7 +142,7 @@ impl BlockWords {
 
 // How many words the channel list has: n levels have n diagonal entries and n(n − 1)/2 others.
 fn channel_count<K: Kind>() -> usize
-    ensures { result ≡ channel_word_count shape }
+    ensures { result ≡ channel_word_count K.shape }
 {
     let levels = K::level_count();
     levels + K::part_count() * (levels * (levels - 1) / 2)

@@ -15,6 +15,6 @@ returns-in-Err g c =
     let sh = g.B.Point.Kind.shape in
     let pts = g.B.Alphabet.points c.args.alphabet.now in
     let i = c.args.index in
-    let p = g.B.Point.Kind.meaning c.from-parts.result in
-    let value = origin_point sh pts i p c.in-Err.field-0 c.from-parts.ensures c.in-Err.ensures in
+    let p = g.B.Point.Kind.meaning c.from_parts.result in
+    let value = origin_point sh pts i p c.in-Err.field-0 c.from_parts.ensures c.in-Err.ensures in
     record { value = value; near = near_all sh pts i p (g.met.B.Alphabet.lawful c.args.alphabet.now) value }

@@ -7,7 +7,7 @@ use Rattle.codewords.proofs.distance.word_distance.Given as goal
 -- the levels that are summed, and those that are left
 abbrev pub invariant-loop-level : goal.invariant-loop-level
 invariant-loop-level g l =
-    let b = block_of g.Point.Kind.shape l.block in
+    let b = block_of g.B.Point.Kind.shape l.block in
     let pts = g.B.Alphabet.points l.alphabet in
     (l.sum + distance (drop l.level b.matrix) (drop l.level b.received) (drop l.level (spelled pts l.word)) ≡ distance_of b pts l.word)
     × (l.sum ≤ 4398046511104 * l.level)

@@ -10,7 +10,7 @@ use Rattle.codewords.proofs.exhaustive.nearest.Given as goal
 -- of the codewords so far the best has the least distance, and is the first that has it
 abbrev pub invariant-loop-number : goal.invariant-loop-number
 invariant-loop-number g l =
-    let sh = g.Point.Kind.shape in
+    let sh = g.B.Point.Kind.shape in
     let pts = g.B.Alphabet.points l.alphabet in
     let at = λ (x : ℕ). distance_of (block_of sh l.block.words) pts (numbered (length pts) (levels sh) x) in
     (x : ℕ)

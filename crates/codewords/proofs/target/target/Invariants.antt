@@ -8,8 +8,8 @@ use Rattle.codewords.proofs.target.target.Given as goal
 -- what is left to take away, and how far the target has come
 abbrev pub invariant-loop-k : goal.invariant-loop-k
 invariant-loop-k g l =
-    let rs = drop 1 (get_or (block_of g.Point.Kind.shape l.block).matrix l.level []) in
+    let rs = drop 1 (get_or (block_of g.B.Point.Kind.shape l.block).matrix l.level []) in
     let ss = spelled (g.B.Alphabet.points l.alphabet) l.above in
-    let u = g.Point.Kind.meaning l.u in
-    (minus u (dot (drop l.k rs) (drop l.k ss)) ≡ minus (g.Point.Kind.meaning l.initial.u) (dot rs ss))
+    let u = g.B.Point.Kind.meaning l.u in
+    (minus u (dot (drop l.k rs) (drop l.k ss)) ≡ minus (g.B.Point.Kind.meaning l.initial.u) (dot rs ss))
     × Within (32768 + 61440 * l.k) u

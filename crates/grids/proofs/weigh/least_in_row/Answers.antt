@@ -7,8 +7,8 @@ pub loop-column-preserved : goal.loop-column-preserved
 loop-column-preserved c ws e h =
     let s = c.args.start in
     let j = c.loop-column.column in
-    let value = c.rank-key.ensures.value ∙ ap (λ (a : ℕ). key a (s + j)) (sym (e j c.loop-column-test.true)) in
-    subst (Least ws c.args.floor (s + (j + 1))) (sym c.lesser-least.ensures) (row_more ws c.args.floor s j c.loop-column.least c.rank-key.result value (c.loop-column.invariant ws e h))
+    let value = c.rank_key.ensures.value ∙ ap (λ (a : ℕ). key a (s + j)) (sym (e j c.loop-column-test.true)) in
+    subst (Least ws c.args.floor (s + (j + 1))) (sym c.lesser-least.ensures) (row_more ws c.args.floor s j c.loop-column.least c.rank_key.result value (c.loop-column.invariant ws e h))
 
 pub returns : goal.returns
 returns c ws e h =

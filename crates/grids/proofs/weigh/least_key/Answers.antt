@@ -4,8 +4,8 @@ use Rattle.grids.specs.Grids.{sums}
 use Rattle.grids.proofs.Weighing.{row_fits, sums_at}
 use Rattle.grids.proofs.weigh.least_key.Goals as goal
 
-pub least-in-row-least-requires : goal.least-in-row-least-requires
-least-in-row-least-requires c = record {
+pub least_in_row-least-requires : goal.least_in_row-least-requires
+least_in_row-least-requires c = record {
   index = row_fits c.loop-row.row (length c.args.im.now) (length c.args.re.now) c.loop-row-test.true c.requires.rows c.requires.columns;
   amounts = λ j h. c.requires.small c.loop-row.row j c.loop-row-test.true h;
 }
@@ -16,7 +16,7 @@ loop-row-preserved c =
     let is = c.args.im.now in
     let i = c.loop-row.row in
     let more : i * length is + length is ≡ (i + 1) * length is = omega (arith, add-mul i 1 (length is)) in
-    subst (λ (n : ℕ). Least (sums rs is) c.args.floor n c.least-in-row-least.result) more (c.least-in-row-least.ensures (sums rs is) (λ j h. sums_at rs is i j c.loop-row-test.true h) c.loop-row.invariant)
+    subst (λ (n : ℕ). Least (sums rs is) c.args.floor n c.least_in_row-least.result) more (c.least_in_row-least.ensures (sums rs is) (λ j h. sums_at rs is i j c.loop-row-test.true h) c.loop-row.invariant)
 
 pub returns : goal.returns
 returns c =

@@ -24,8 +24,8 @@ loop-index-preserved g c =
     let few = (g.met.P.Alphabet.lawful side).few in
     let fr : SFits w32 re = search rules in
     let fi : SFits w32 im = search rules in
-    let s = real c.point-or-origin-point.result.value in
-    let value = c.point-or-origin-point.ensures.value in (
+    let s = real c.point_or_origin-point.result.value in
+    let value = c.point_or_origin-point.ensures.value in (
       length-set c.loop-index.re i c.amount.result ∙ inv.0,
       length-set c.loop-index.im i c.amount-in-loop-index.result ∙ inv.1,
       weighed_more c.loop-index.re (amounts ps (real re) r) i c.amount.result (omega (arith, inv.0, within, few)) (weighed ps re r i c.amount.result s within value (simp to_z-of_z at c.amount.ensures.value)) inv.2,

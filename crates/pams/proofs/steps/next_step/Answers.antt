@@ -6,7 +6,7 @@ pub returns-then-across-size : goal.returns-then-across-size
 returns-then-across-size c ws e h = step_over ws c.args.steps h c.args.index (omega (arith, e, c.requires.index)) (c.args.steps - c.args.index) c.if-index-steps.true refl (omega (arith, e, c.if-across-size.true))
 
 pub returns-then-index-steps : goal.returns-then-index-steps
-returns-then-index-steps c ws e h = step_away ws c.args.steps h c.args.index (omega (arith, e, c.requires.index)) c.checked-sub.result c.if-index-steps.true (omega (arith, e, c.if-across-size.false)) c.checked-sub.ensures
+returns-then-index-steps c ws e h = step_away ws c.args.steps h c.args.index (omega (arith, e, c.requires.index)) c.checked_sub.result c.if-index-steps.true (omega (arith, e, c.if-across-size.false)) c.checked_sub.ensures
 
 pub returns-then-index-steps-2 : goal.returns-then-index-steps-2
 returns-then-index-steps-2 c ws e h = step_back ws c.args.steps h c.args.index (omega (arith, e, c.requires.index)) (c.args.steps - c.args.index - 1) c.if-index-steps.false c.if-index-steps-2.true refl

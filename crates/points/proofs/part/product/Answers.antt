@@ -3,8 +3,8 @@ use Rattle.std.proofs.lemmas.Int.{to_z-of_z}
 use Rattle.points.proofs.Reach.{product_reach, fits_32}
 use Rattle.points.proofs.part.product.Goals as goal
 
-pub overflow-mul-result : goal.overflow-mul-result
-overflow-mul-result c =
+pub overflow_mul-result : goal.overflow_mul-result
+overflow_mul-result c =
     let fr = c.ranges.r in
     let fs = c.ranges.s in
     simp to_z-of_z (fits_32 (c.args.r *ℤ c.args.s) (omega (arith, product_reach c.args.r c.args.s c.requires.entry c.requires.point)))

@@ -14,7 +14,7 @@ returns c =
     let fd : SFits w32 (u -ℤ p) = fits_32 (u -ℤ p) (omega arith) in
     let small = to_z_pos w32 c.args.r (omega (arith, c.requires.gain)) in
     let is_product : p ≡ pos c.args.r *ℤ c.args.s = simp (to_z-of_z, small) at c.product.ensures.value in
-    let offset : c.unsigned-abs-offset.result ≡ nat_abs (u -ℤ p) = simp to_z-of_z at c.unsigned-abs-offset.ensures.value in
+    let offset : c.unsigned_abs-offset.result ≡ nat_abs (u -ℤ p) = simp to_z-of_z at c.unsigned_abs-offset.ensures.value in
     let value = ap (λ (n : ℕ). n * n) offset in
     record {
       value = value ∙ ap (λ (z : ℤ). nat_abs (u -ℤ z) * nat_abs (u -ℤ z)) is_product;

@@ -1,16 +1,16 @@
 use Rattle.tables.specs.Checks.{answered, listed_empty, listed_many, listed_left, none_left, part_refused, repeated_refused, point_passed, accepts_lawful, tells_first}
 use Rattle.tables.proofs.check.check.Goals as goal
-use Rattle.tables.proofs.check.check.Goals.{then-is-empty-via-then-is-empty, then-is-empty-via-else-is-empty+then-points-size-limit}
+use Rattle.tables.proofs.check.check.Goals.{then-is_empty-via-then-is_empty, then-is_empty-via-else-is_empty+then-points-size_limit}
 
-pub returns-then-is-empty : goal.returns-then-is-empty
-returns-then-is-empty g c =
+pub returns-then-is_empty : goal.returns-then-is_empty
+returns-then-is_empty g c =
     let sh = g.K.Kind.shape in
     let m = g.K.Kind.meaning in
     let xs = c.args.points.now in
     record {
-      answer = elim c.then-is-empty.branch [
-        | then-is-empty-via-then-is-empty w ↦ answered (listed_empty sh m xs w.if-is-empty.ensures)
-        | then-is-empty-via-else-is-empty+then-points-size-limit w ↦ answered (listed_many sh m xs w.size-limit.result w.size-limit.ensures w.if-points-size-limit.true)
+      answer = elim c.then-is_empty.branch [
+        | then-is_empty-via-then-is_empty w ↦ answered (listed_empty sh m xs w.if-is_empty.ensures)
+        | then-is_empty-via-else-is_empty+then-points-size_limit w ↦ answered (listed_many sh m xs w.size_limit.result w.size_limit.ensures w.if-points-size_limit.true)
       ];
       law = accepts_lawful;
       first = tells_first;
@@ -21,7 +21,7 @@ returns-then-not-within g c =
     let m = g.K.Kind.meaning in
     let xs = c.args.points.now in
     let i = c.loop-index.index in
-    let left = listed_left g.K.Kind.shape m xs c.size-limit.result i c.size-limit.ensures c.if-is-empty.ensures c.if-points-size-limit.false c.loop-index.invariant in
+    let left = listed_left g.K.Kind.shape m xs c.size_limit.result i c.size_limit.ensures c.if-is_empty.ensures c.if-points-size_limit.false c.loop-index.invariant in
     record {
       answer = answered (part_refused m xs i c.index-points-index.result c.loop-index-test.true c.index-points-index.is _ left c.if-not-within.ensures);
       law = accepts_lawful;
@@ -33,7 +33,7 @@ returns-then-holds g c =
     let m = g.K.Kind.meaning in
     let xs = c.args.points.now in
     let i = c.loop-index.index in
-    let left = listed_left g.K.Kind.shape m xs c.size-limit.result i c.size-limit.ensures c.if-is-empty.ensures c.if-points-size-limit.false c.loop-index.invariant in
+    let left = listed_left g.K.Kind.shape m xs c.size_limit.result i c.size_limit.ensures c.if-is_empty.ensures c.if-points-size_limit.false c.loop-index.invariant in
     record {
       answer = answered (repeated_refused m xs i c.index-points-index.result c.loop-index-test.true c.index-points-index.is _ left c.if-not-within.ensures c.if-holds.ensures);
       law = accepts_lawful;
@@ -49,5 +49,5 @@ returns g c =
     let m = g.K.Kind.meaning in
     let xs = c.args.points.now in
     let i = c.loop-index.index in
-    let left = listed_left sh m xs c.size-limit.result i c.size-limit.ensures c.if-is-empty.ensures c.if-points-size-limit.false c.loop-index.invariant in
+    let left = listed_left sh m xs c.size_limit.result i c.size_limit.ensures c.if-is_empty.ensures c.if-points-size_limit.false c.loop-index.invariant in
     record { answer = answered (none_left sh m xs _ i left c.loop-index-test.false); law = accepts_lawful; first = tells_first }

@@ -15,8 +15,8 @@ amount-requires g c =
       point = read_near m c.args.points.now g.K.Kind.shape c.loop-index.index c.index-points-index.result c.requires.lawful c.loop-index-test.true c.index-points-index.is;
     }
 
-pub rank-key-requires : goal.rank-key-requires
-rank-key-requires g c =
+pub rank_key-requires : goal.rank_key-requires
+rank_key-requires g c =
     let m = g.K.Kind.meaning in
     let few = few_read m c.args.points.now g.K.Kind.shape c.requires.lawful in
     record { amount = c.amount.ensures.bound; index = omega arith }
@@ -27,5 +27,5 @@ loop-index-preserved g c =
     let xs = c.args.points.now in
     let u = m c.args.target in
     let i = c.loop-index.index in
-    let is = read_key m xs u c.args.gain i c.index-points-index.result c.amount.result c.rank-key.result c.loop-index-test.true c.index-points-index.is c.amount.ensures.value c.rank-key.ensures.value in
-    rw c.lesser-least.ensures (least_more (amounts (map m xs) u c.args.gain) c.args.floor i c.loop-index.least c.rank-key.result is c.loop-index.invariant)
+    let is = read_key m xs u c.args.gain i c.index-points-index.result c.amount.result c.rank_key.result c.loop-index-test.true c.index-points-index.is c.amount.ensures.value c.rank_key.ensures.value in
+    rw c.lesser-least.ensures (least_more (amounts (map m xs) u c.args.gain) c.args.floor i c.loop-index.least c.rank_key.result is c.loop-index.invariant)

@@ -19,8 +19,8 @@ quotient_fits c = subst (SFits w32) (sym (quotient_is c)) (rounded_fits c.args.s
 pub returns-then-self-eq0 : goal.returns-then-self-eq0
 returns-then-self-eq0 c = record { value = search rules; down = rounds_down }
 
-pub overflow-cast-result : goal.overflow-cast-result
-overflow-cast-result c =
+pub overflow_cast-result : goal.overflow_cast-result
+overflow_cast-result c =
     let wide : SFits w64 c.quotient.result = search rules in
     simp to_z-of_z (quotient_fits c)
 

@@ -8,17 +8,17 @@ use Rattle.blocks.proofs.words.BlockWords.load.Goals as goal
 pub returns-in-Ok : goal.returns-in-Ok
 returns-in-Ok g c =
     let sh = g.K.Kind.shape in
-    let bits = c.in-ok-bits.bits in
+    let bits = c.in_ok-bits.bits in
     let cs = c.args.channel.now in
     let zs = c.args.received.now in
-    let m = matrix_of sh (levels sh) c.in-ok-rows.rows in
-    let same = ap (λ (e : ℕ). load_answer sh e cs zs) (bits_are c.args.extra-bits bits.count c.in-ok-bits.ensures) in
+    let m = matrix_of sh (levels sh) c.in_ok-rows.rows in
+    let same = ap (λ (e : ℕ). load_answer sh e cs zs) (bits_are c.args.extra_bits bits.count c.in_ok-bits.ensures) in
     record {
       answer =
           loaded sh bits.count cs zs m c.in-Ok.received bits.few
-          (c.if-channel-channel-count.false ∙ c.channel-count.ensures)
-          c.if-received-ne-RECEIVED-COUNT.false
-          c.in-ok-rows.ensures.rows
+          (c.if-channel-channel_count.false ∙ c.channel_count.ensures)
+          c.if-received-ne-RECEIVED_COUNT.false
+          c.in_ok-rows.ensures.rows
           c.in-Ok.ensures
           ∙ same;
       layout = written_out;

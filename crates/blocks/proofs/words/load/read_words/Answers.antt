@@ -20,12 +20,12 @@ loop-k-preserved c =
     let i = c.args.place in
     let k = c.loop-k.k in
     let read = c.loop-k.read in
-    let w = c.rounded-word-word.result in
+    let w = c.rounded_word-word.result in
     let ws = map (rounded c.args.bits.count) c.args.words.now in
     let inv = c.loop-k.invariant in
-    let fresh = c.rounded-word-word.ensures in
+    let fresh = c.rounded_word-word.ensures in
     let fits : SFits w32 w = search rules in
-    let inside : outside b w ≡ false = simp to_z-of_z at (sym c.if-is-outside.ensures) in
+    let inside : outside b w ≡ false = simp to_z-of_z at (sym c.if-is_outside.ensures) in
     let room : k < length read = omega (arith, inv.3, c.requires.few, c.loop-k-test.true) in
     simp to_z-of_z (
       turn_goes_on b n i k ws read w c.loop-k-test.true fresh inv.0 inside,
@@ -34,14 +34,14 @@ loop-k-preserved c =
       length-set read k w ∙ inv.3,
     )
 
-pub returns-then-is-outside : goal.returns-then-is-outside
-returns-then-is-outside c =
+pub returns-then-is_outside : goal.returns-then-is_outside
+returns-then-is_outside c =
     let b = c.args.limit in
-    let w = c.rounded-word-word.result in
+    let w = c.rounded_word-word.result in
     let ws = map (rounded c.args.bits.count) c.args.words.now in
     let fits : SFits w32 w = search rules in
-    let beyond : outside b w ≡ true = simp to_z-of_z at (sym c.if-is-outside.ensures) in
-    turn_refuses b c.args.count c.args.place c.loop-k.k ws c.loop-k.read w c.loop-k-test.true c.rounded-word-word.ensures c.loop-k.invariant.0 beyond
+    let beyond : outside b w ≡ true = simp to_z-of_z at (sym c.if-is_outside.ensures) in
+    turn_refuses b c.args.count c.args.place c.loop-k.k ws c.loop-k.read w c.loop-k-test.true c.rounded_word-word.ensures c.loop-k.invariant.0 beyond
 
 pub returns : goal.returns
 returns c =

@@ -8,25 +8,25 @@ use Rattle.grids.proofs.Weighing.{grid_answered, square_fits}
 use Rattle.grids.proofs.grid.GridAlphabet.first.Given as given
 use Rattle.grids.proofs.grid.GridAlphabet.first.Goals as goal
 
-answered : (g : given.Over) (c : goal.After-size g) → (c.in-ok-re.re < c.size.result) × (c.in-ok-im.im < c.size.result) × (Ok (c.in-ok-re.re * c.size.result + c.in-ok-im.im) ≡ first_answer (grid_points (g.P.Alphabet.points c.args.self.now.side)) (gaussian c.args.target.re c.args.target.im) c.args.gain)
+answered : (g : given.Over) (c : goal.After-size g) → (c.in_ok-re.re < c.size.result) × (c.in_ok-im.im < c.size.result) × (Ok (c.in_ok-re.re * c.size.result + c.in_ok-im.im) ≡ first_answer (grid_points (g.P.Alphabet.points c.args.self.now.side)) (gaussian c.args.target.re c.args.target.im) c.args.gain)
 answered g c =
     let fr : SFits w32 c.args.target.re = search rules in
     let fi : SFits w32 c.args.target.im = search rules in
     let side = c.args.self.now.side in
-    grid_answered (g.P.Alphabet.points side) (gaussian c.args.target.re c.args.target.im) c.args.gain c.size.result c.in-ok-re.re c.in-ok-im.im
-    (g.met.P.Alphabet.lawful side) c.size.ensures (simp to_z-of_z at c.in-ok-re.ensures) (simp to_z-of_z at c.in-ok-im.ensures)
+    grid_answered (g.P.Alphabet.points side) (gaussian c.args.target.re c.args.target.im) c.args.gain c.size.result c.in_ok-re.re c.in_ok-im.im
+    (g.met.P.Alphabet.lawful side) c.size.ensures (simp to_z-of_z at c.in_ok-re.ensures) (simp to_z-of_z at c.in_ok-im.ensures)
 
-pub overflow-mul-result : goal.overflow-mul-result
-overflow-mul-result g c =
+pub overflow_mul-result : goal.overflow_mul-result
+overflow_mul-result g c =
     let a = answered g c in
     let side = c.args.self.now.side in
-    record { fits = omega (arith, mul-add-lt c.in-ok-re.re c.size.result c.in-ok-im.im c.size.result a.0 a.1, square_fits (g.P.Alphabet.points side) c.size.result (g.met.P.Alphabet.lawful side) c.size.ensures) }
+    record { fits = omega (arith, mul-add-lt c.in_ok-re.re c.size.result c.in_ok-im.im c.size.result a.0 a.1, square_fits (g.P.Alphabet.points side) c.size.result (g.met.P.Alphabet.lawful side) c.size.ensures) }
 
-pub overflow-add-result : goal.overflow-add-result
-overflow-add-result g c =
+pub overflow_add-result : goal.overflow_add-result
+overflow_add-result g c =
     let a = answered g c in
     let side = c.args.self.now.side in
-    record { fits = omega (arith, mul-add-lt c.in-ok-re.re c.size.result c.in-ok-im.im c.size.result a.0 a.1, square_fits (g.P.Alphabet.points side) c.size.result (g.met.P.Alphabet.lawful side) c.size.ensures) }
+    record { fits = omega (arith, mul-add-lt c.in_ok-re.re c.size.result c.in_ok-im.im c.size.result a.0 a.1, square_fits (g.P.Alphabet.points side) c.size.result (g.met.P.Alphabet.lawful side) c.size.ensures) }
 
 pub returns : goal.returns
 returns g c = (answered g c).2

@@ -13,6 +13,6 @@ returns c =
     let u = real c.args.target.value in
     let r = c.args.gain in
     let f : SFits w32 c.args.target.value = search rules in
-    let h = told_steps n c.count-size.result c.args.target.value r c.half-steps.result c.count-size.ensures (simp to_z-of_z at c.half-steps.ensures.value) in
-    let asked = accepted u r c.in-ok-ask.field-0 c.in-ok-ask.ensures in
-    told_first (pam_points n) u r c.first-step.result asked (c.first-step.ensures (amounts (pam_points n) u r) h.0 h.1)
+    let h = told_steps n c.count-size.result c.args.target.value r c.half_steps.result c.count-size.ensures (simp to_z-of_z at c.half_steps.ensures.value) in
+    let asked = accepted u r c.in_ok-ask.field-0 c.in_ok-ask.ensures in
+    told_first (pam_points n) u r c.first_step.result asked (c.first_step.ensures (amounts (pam_points n) u r) h.0 h.1)

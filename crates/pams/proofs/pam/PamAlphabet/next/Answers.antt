@@ -12,7 +12,7 @@ pub returns-then-index-size : goal.returns-then-index-size
 returns-then-index-size c =
     let n = pam_size c.args.self.now.size in
     let u = real c.args.target.value in
-    let asked = accepted u c.args.gain c.in-ok-ask.field-0 c.in-ok-ask.ensures in
+    let asked = accepted u c.args.gain c.in_ok-ask.field-0 c.in_ok-ask.ensures in
     past_next (pam_points n) u c.args.gain c.args.index asked (omega (arith, pam_length n))
 
 pub returns : goal.returns
@@ -21,6 +21,6 @@ returns c =
     let u = real c.args.target.value in
     let r = c.args.gain in
     let f : SFits w32 c.args.target.value = search rules in
-    let h = told_steps n c.count-size.result c.args.target.value r c.half-steps.result c.count-size.ensures (simp to_z-of_z at c.half-steps.ensures.value) in
-    let asked = accepted u r c.in-ok-ask.field-0 c.in-ok-ask.ensures in
-    told_next (pam_points n) u r c.args.index c.next-step.result asked (omega (arith, pam_length n)) (c.next-step.ensures (amounts (pam_points n) u r) h.0 h.1)
+    let h = told_steps n c.count-size.result c.args.target.value r c.half_steps.result c.count-size.ensures (simp to_z-of_z at c.half_steps.ensures.value) in
+    let asked = accepted u r c.in_ok-ask.field-0 c.in_ok-ask.ensures in
+    told_next (pam_points n) u r c.args.index c.next_step.result asked (omega (arith, pam_length n)) (c.next_step.ensures (amounts (pam_points n) u r) h.0 h.1)

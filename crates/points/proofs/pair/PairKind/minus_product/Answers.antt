@@ -18,20 +18,20 @@ less_sub u a b g h k = fits_32 (u -ℤ (a -ℤ b)) (omega (arith, natAbs_sub a b
 less_add : (u a b : ℤ) → nat_abs u ≤ 1048576 → nat_abs a ≤ 30720 → nat_abs b ≤ 30720 → SFits w32 (u -ℤ (a +ℤ b))
 less_add u a b g h k = fits_32 (u -ℤ (a +ℤ b)) (omega (arith, natAbs_add a b, natAbs_sub u (a +ℤ b)))
 
-pub overflow-sub-re : goal.overflow-sub-re
-overflow-sub-re c =
+pub overflow_sub-re : goal.overflow_sub-re
+overflow_sub-re c =
     let fa : SFits w32 c.product.result = search rules in
     let fb : SFits w32 c.product-2.result = search rules in
     simp to_z-of_z (joined_sub c.product.result c.product-2.result c.product.ensures.bound c.product-2.ensures.bound)
 
-pub overflow-add-im : goal.overflow-add-im
-overflow-add-im c =
+pub overflow_add-im : goal.overflow_add-im
+overflow_add-im c =
     let fa : SFits w32 c.product-3.result = search rules in
     let fb : SFits w32 c.product-4.result = search rules in
     simp to_z-of_z (joined_add c.product-3.result c.product-4.result c.product-3.ensures.bound c.product-4.ensures.bound)
 
-pub overflow-sub-result : goal.overflow-sub-result
-overflow-sub-result c =
+pub overflow_sub-result : goal.overflow_sub-result
+overflow_sub-result c =
     let u = c.args.self.re in
     let a = c.product.result in
     let b = c.product-2.result in
@@ -41,8 +41,8 @@ overflow-sub-result c =
     let fd = joined_sub a b c.product.ensures.bound c.product-2.ensures.bound in
     simp to_z-of_z (less_sub u a b c.requires.target.re c.product.ensures.bound c.product-2.ensures.bound)
 
-pub overflow-sub-result-2 : goal.overflow-sub-result-2
-overflow-sub-result-2 c =
+pub overflow_sub-result-2 : goal.overflow_sub-result-2
+overflow_sub-result-2 c =
     let u = c.args.self.im in
     let a = c.product-3.result in
     let b = c.product-4.result in

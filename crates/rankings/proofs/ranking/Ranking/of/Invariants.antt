@@ -6,7 +6,7 @@ use Rattle.rankings.proofs.ranking.Ranking.of.Given as goal
 -- what stands in the array is the front of the ranking, and `next` is what stands behind it
 abbrev pub invariant-loop-next : goal.invariant-loop-next
 invariant-loop-next g l =
-    let u = g.Point.Kind.meaning l.target in
+    let u = g.B.Point.Kind.meaning l.target in
     let ws = amounts (g.B.Alphabet.points l.alphabet) u l.gain in
     (length l.indices ≡ 256) × (askable u l.gain ≡ true) × (l.count ≤ 256) × (take l.count l.indices ≡ take l.count (ranking ws)) × (l.next ≡ place (ranking ws) l.count)
 
