@@ -5,12 +5,12 @@
 --   spelled pts w         the points of w
 --   Earlier v w           v comes before w: of the highest level at which they differ, v has the smaller index
 use Rattle.std.specs.Prelude.{◌≡◌, ℕ, ◌<◌, ◌⊎◌, List, [], ◌∷◌, map, length, take, slice_index_or}
-use Rattle.std.specs.List.{AllByRecursion as All}
+use Rattle.std.specs.List.{AllByRecursion}
 use Rattle.points.specs.Points.{Gaussian, origin}
 use Rattle.codewords.specs.declared.codeword.Codeword.{Codeword}
 
 abbrev pub IsCodeword : ℕ → ℕ → List ℕ → Type 0
-IsCodeword m n w = (length w ≡ n) × All (λ i. i < m) w
+IsCodeword m n w = (length w ≡ n) × AllByRecursion (λ i. i < m) w
 
 abbrev pub word_of : Codeword → List ℕ
 word_of c = take c.levels c.indices

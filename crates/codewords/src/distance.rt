@@ -1,6 +1,6 @@
 // The distance of a codeword, level by level.
 ghost use Rattle.std.specs.Prelude.{◌≡◌, ◌^◌, ◌<◌, length, Decides, MatchOption};
-ghost use Rattle.std.specs.List.{AllByRecursion as All};
+ghost use Rattle.std.specs.List.{AllByRecursion};
 ghost use Rattle.points.specs.Points.{levels};
 ghost use Rattle.blocks.specs.Blocks.{block_of};
 ghost use Rattle.codewords.specs.Codewords.{IsCodeword};
@@ -42,7 +42,7 @@ pub fn distance<B: Alphabet>(alphabet: &B, block: &Block<B::Point>, word: &[usiz
 
 // Whether every index is below the size.
 fn all_below(word: &[usize], size: usize) -> bool
-    ensures { Decides result (All (λ i. i < size) word.now) }
+    ensures { Decides result (AllByRecursion (λ i. i < size) word.now) }
 {
     for index in word {
         if *index >= size {

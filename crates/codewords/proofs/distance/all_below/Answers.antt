@@ -2,7 +2,7 @@ use Rattle.std.proofs.Common.{ℕ, ◌<◌, refl, subst, arith}
 use Rattle.std.proofs.ByRecursion.{All-get_or, All-more}
 use Rattle.std.proofs.lemmas.List.{take_all}
 use Rattle.std.proofs.lemmas.Bool.{false≢true}
-use Rattle.std.specs.List.{AllByRecursion as All}
+use Rattle.std.specs.List.{AllByRecursion}
 use Rattle.codewords.proofs.distance.all_below.Goals as goal
 
 pub returns-then-index-size : goal.returns-then-index-size
@@ -19,6 +19,6 @@ loop-index-preserved c = All-more (λ (i : ℕ). i < c.args.size) c.args.word.no
 
 pub returns : goal.returns
 returns c = (
-  (λ _. subst (All (λ (i : ℕ). i < c.args.size)) (take_all c.loop-index.index-index c.args.word.now c.loop-index-test.false) c.loop-index.invariant),
+  (λ _. subst (AllByRecursion (λ (i : ℕ). i < c.args.size)) (take_all c.loop-index.index-index c.args.word.now c.loop-index-test.false) c.loop-index.invariant),
   (λ _. refl),
 )
