@@ -1,5 +1,5 @@
 -- The amounts of a grid are sums of its sides' amounts; who weighs the sides ranks the grid.
-use Rattle.std.proofs.Common.{◌≡◌, ℕ, suc, ◌+◌, ◌*◌, ◌/◌, ◌%◌, ◌^◌, ◌<◌, ◌≤◌, true, false, ◌⊎◌, List, length, get_or, take, set, ℤ, pos, ◌-ℤ◌, ◌*ℤ◌, Ok, Option, sym, ap, ◌∙◌, subst, ap₂, ⊎_elim, mul-le-mul_right, suc-mul, mul-le-mul_left, mul-zero, arith, length-take-le, below_more}
+use Rattle.std.proofs.Common.{◌≡◌, ℕ, suc, ◌+◌, ◌*◌, ◌/◌, ◌%◌, ◌^◌, ◌<◌, ◌≤◌, true, false, List, length, get_or, take, set, ℤ, pos, ◌-ℤ◌, ◌*ℤ◌, Ok, Option, sym, ap, ◌∙◌, subst, ap₂, ⊎_elim, mul-le-mul_right, suc-mul, mul-le-mul_left, mul-zero, arith, length-take-le, below_more}
 use lib.IntN.{*ℤ-zero}
 use Rattle.std.proofs.lemmas.Nat.{mul-le, mul-add-lt, div-mul-add, mod-mul-add, div_below, mod_below, div-add-mod'}
 use Rattle.std.proofs.lemmas.List.FromFn.{length-map-range_with_len, get_or-map-range_with_len}

@@ -1,5 +1,5 @@
 -- Who begins at the first and asks for the next fills the array with the ranking.
-use Rattle.std.proofs.Common.{◌≡◌, ℕ, ◌+◌, ◌-◌, ◌<◌, ◌≤◌, true, List, length, get_or, take, set, Some, None, Ok, Err, Option, sym, ap, ◌∙◌, arith}
+use Rattle.std.proofs.Common.{◌≡◌, ℕ, ◌+◌, ◌<◌, ◌≤◌, true, List, length, get_or, take, set, Some, None, Ok, Err, Option, sym, ap, ◌∙◌, arith}
 use Rattle.std.proofs.lemmas.List.{length-set, take_all, take-set, take_more_same, get_or-set_same}
 use Rattle.faults.specs.declared.alphabet.AlphabetFault.{AlphabetFault}
 use Rattle.faults.specs.Refusals.{answer}

@@ -1,4 +1,4 @@
-use Rattle.std.proofs.Common.{◌≡◌, ℕ, ◌+◌, ◌-◌, ◌/◌, ◌%◌, ◌<◌, min, ℤ, pos, nat_abs, sym, ap, ◌∙◌, arith}
+use Rattle.std.proofs.Common.{◌≡◌, ℕ, ◌+◌, ◌/◌, ◌%◌, ◌<◌, min, ℤ, pos, nat_abs, sym, ap, ◌∙◌, arith}
 use lib.Signed.{le_z}
 use Rattle.pams.proofs.Stepping.{middle_fits, stand_held, stand_fits, stand_word, no_gain, at_first, above_first}
 use Rattle.pams.proofs.steps.half_steps.Goals as goal
