@@ -10,6 +10,8 @@ import re
 
 # A name that would fall together with a function of the same file.
 OTHERWISE = {"channel-count": "channel_word_count", "word-distance": "distance_of"}
+# Names that a `ghost use` gives.
+GIVEN = {"lesserOf": "lesser_of", "pairShape": "pair_shape", "realPoint": "real_point", "wholeShape": "whole_shape"}
 DECLARED = re.compile(r"^ *(?:(?:abbrev|unfoldable|opaque|pub|record|data) +)*(?P<name>[^\s:(){},.=|λ∷\[\]]+)(?P<binders>.*) : (?P<type>.*)$")
 BOUND = re.compile(r"\blet (?P<name>[^\s:(){},.=|λ∷\[\]]+) ")
 
@@ -27,7 +29,7 @@ def respelled(name):
 
 
 def own_names():
-    names = {}
+    names = dict(GIVEN)
     for path in proof_files():
         for line in open(path, encoding="utf-8"):
             if re.match(r"\s*(--|use |mod |pub use |pub mod )", line):

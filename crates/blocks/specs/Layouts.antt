@@ -2,7 +2,7 @@
 --
 --   PairLayout    for pairs, x and y are the real and the imaginary part
 --   WholeLayout   for whole numbers
---   Layout         both
+--   Layout        both
 use Rattle.std.specs.Prelude.{◌≡◌, [], ◌∷◌, ℤ}
 use Rattle.points.specs.Points.{gaussian, real, whole, pair}
 use Rattle.blocks.specs.Systems.{system}

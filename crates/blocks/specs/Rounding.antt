@@ -1,7 +1,7 @@
 -- The rounding of raw words by extra bits.
 --
 --   down x d        x / d, rounded down
---   RoundsDown     it is: x is d times that quotient, and a rest below d
+--   RoundsDown      it is: x is d times that quotient, and a rest below d
 --   rounded e w     (w + 2^(e−1)) / 2^e, rounded down; with no extra bits it is w
 --   bits_answer     e extra bits, or the refusal of more than 8
 use Rattle.std.specs.Prelude.{◌≡◌, ℕ, zero, suc, ◌/◌, ◌^◌, ◌<◌, cond, ℤ, pos, negsuc, ◌+ℤ◌, ◌*ℤ◌, Ok, Err, Result, nat_le}

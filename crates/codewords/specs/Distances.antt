@@ -2,7 +2,7 @@
 --
 --   dot rs ss               Σ r_j·s_j
 --   distance m zs ss        the sum over l of |z_l − Σ_{j≥l} r_lj·s_j|², for the rows r_l of m: ‖z − R·s‖²
---   distance_of b pts w   the distance of the codeword w in the block b
+--   distance_of b pts w     the distance of the codeword w in the block b
 --   Reached b pts n w d     w is a codeword of n levels, d is its distance, and d is under 2^40
 use Rattle.std.specs.Prelude.{◌≡◌, ℕ, ◌+◌, ◌^◌, ◌<◌, List, [], ◌∷◌, length}
 use Rattle.points.specs.Points.{Gaussian, origin, plus, minus, times, norm}

@@ -1,7 +1,7 @@
 -- The grid of a whole alphabet: every pair of its points.
 --
 --   grid_points ps   the pairs of L whole points ps, by index
---   GridOrder       index i·L + j is the pair of the i-th and the j-th point
+--   GridOrder        index i·L + j is the pair of the i-th and the j-th point
 --   sums rs is       in the same order, the sum of an amount out of rs and one out of is
 --   Sides rs is      amounts of two sides that can be summed so: at most 16 on each, and no sum too large for a key
 use Rattle.std.specs.Prelude.{◌≡◌, ℕ, ◌+◌, ◌*◌, ◌/◌, ◌%◌, ◌^◌, ◌<◌, ◌≤◌, List, map, length, get_or, slice_index, slice_index_or}

@@ -3,7 +3,7 @@
 --   pam_size       the number of points
 --   size_answer    the size that a number names, or its refusal
 --   pam_points n   the n points; the one at index i is 2i − (n − 1)
---   FourRanks     how a PAM of size 4 ranks its points: at the target 0 and the gain 10, at 20 and 10, and at 7 and 0
+--   FourRanks      how a PAM of size 4 ranks its points: at the target 0 and the gain 10, at 20 and 10, and at 7 and 0
 use Rattle.std.specs.Prelude.{◌≡◌, ℕ, ◌-◌, ◌*◌, cond, List, [], ◌∷◌, map, pos, ◌-ℤ◌, Ok, Err, Result, ◌==◌}
 use Rattle.std.specs.List.{range_with_len}
 use Rattle.faults.specs.declared.alphabet.AlphabetFault.{AlphabetFault}

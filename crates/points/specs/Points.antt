@@ -1,15 +1,15 @@
 -- Points, and the arithmetic of targets and amounts.
 --
---   Gaussian       a complex number with whole parts; a whole number has the imaginary part 0
---   norm           |u|², the sum of both parts' squares
---   amount u r s   |u − r·s|², for a target u, a gain r and a point s
---   Within b u     no part of u is larger than b, whatever its sign
---   within b u     whether it is so
---   Shape          the kinds of point: a whole number, or a pair of a real and an imaginary part
---   project        what a point of a shape keeps of two parts
---   levels         how many levels a block has
---   size_limit     how many points an alphabet has at most
---   parts          how many words a channel or received value takes
+--   Gaussian          a complex number with whole parts; a whole number has the imaginary part 0
+--   norm              |u|², the sum of both parts' squares
+--   amount u r s      |u − r·s|², for a target u, a gain r and a point s
+--   Within b u        no part of u is larger than b, whatever its sign
+--   within b u        whether it is so
+--   Shape             the kinds of point: a whole number, or a pair of a real and an imaginary part
+--   project           what a point of a shape keeps of two parts
+--   levels            how many levels a block has
+--   size_limit        how many points an alphabet has at most
+--   parts             how many words a channel or received value takes
 --   value_at sh ws i  the channel or received value whose words begin at place i of ws, a pair as real then imaginary part
 use Rattle.std.specs.Prelude.{ℕ, ◌+◌, ◌*◌, ◌≤◌, Bool, ◌&&◌, List, ℤ, pos, ◌+ℤ◌, ◌-ℤ◌, ◌*ℤ◌, nat_le, slice_index_or, unsigned_abs}
 

@@ -1,5 +1,5 @@
 // Pairs as points, complex numbers with whole parts: blocks of four levels.
-ghost use Rattle.points.specs.Points.{gaussian, pair as pairShape};
+ghost use Rattle.points.specs.Points.{gaussian, pair as pair_shape};
 ghost use Rattle.std.proofs.Common.{rules};
 
 use crate::kind::Kind;
@@ -18,7 +18,7 @@ impl Kind for Pair {
 
     const MOST_POINTS: usize = 256;
 
-    ghost shape = { pairShape };
+    ghost shape = { pair_shape };
 
     ghost meaning = { λ p. gaussian p.re p.im };
 

@@ -1,5 +1,5 @@
 // Whole numbers as points: blocks of eight levels.
-ghost use Rattle.points.specs.Points.{real as realPoint, whole as wholeShape};
+ghost use Rattle.points.specs.Points.{real as real_point, whole as whole_shape};
 ghost use Rattle.std.proofs.Common.{rules};
 
 use crate::kind::Kind;
@@ -17,9 +17,9 @@ impl Kind for Whole {
 
     const MOST_POINTS: usize = 16;
 
-    ghost shape = { wholeShape };
+    ghost shape = { whole_shape };
 
-    ghost meaning = { λ p. realPoint p.value };
+    ghost meaning = { λ p. real_point p.value };
 
     ghost own = { Prim.search rules };
 

@@ -4,8 +4,8 @@
 --   no_key               above every key: the largest number of 64 bits
 --   lesser floor k l     k, if it is not below the floor and less than l, and else l
 --   index_of k           the index in a key
---   KeyOrder            keys compare as amounts do, and those of equal amounts as their indices
---   KeyIndex            a key tells its index
+--   KeyOrder             keys compare as amounts do, and those of equal amounts as their indices
+--   KeyIndex             a key tells its index
 --   key_at ws i          the key of the index i in a list of amounts
 --   Least ws floor n l   l is the least key, not below the floor, of the indices below n, or no_key where there is none
 use Rattle.std.specs.Prelude.{◌≡◌, ℕ, ◌+◌, ◌*◌, ◌%◌, ◌^◌, ◌<◌, ◌≤◌, cond, ◌&&◌, ◌||◌, ◌⊎◌, List, Some, None, Option, ◌==◌, nat_le, nat_lt, slice_index}

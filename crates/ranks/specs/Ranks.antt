@@ -7,7 +7,7 @@
 --
 -- What makes that list the ranking, whatever the way of sorting:
 --
---   EachOnce       it holds every index of ws exactly once, and no other number
+--   EachOnce        it holds every index of ws exactly once, and no other number
 --   Ascends         what stands at an earlier place comes before what stands at a later one
 --   Walked          the first stands at its place 0, and what follows an index stands at the next place
 use Rattle.std.specs.Prelude.{◌≡◌, ℕ, zero, suc, ◌+◌, ◌<◌, Bool, true, cond, ◌&&◌, ◌||◌, List, [], ◌∷◌, length, Some, None, Option, ◌==◌, nat_lt, slice_index}

@@ -1,6 +1,6 @@
 // Rank as one number: the smaller key comes before.
 ghost use Rattle.std.specs.Prelude.{◌≡◌, ◌^◌, ◌<◌};
-ghost use Rattle.ranks.specs.Keys.{key as key_of, lesser as lesserOf, index_of, KeyOrder, KeyIndex};
+ghost use Rattle.ranks.specs.Keys.{key as key_of, lesser as lesser_of, index_of, KeyOrder, KeyIndex};
 
 // Above every key.
 pub const NO_KEY: u64 = u64::MAX;
@@ -17,7 +17,7 @@ pub fn rank_key(amount: u64, index: usize) -> u64
 
 // The lesser of two keys, of which the first counts only if it is not below the floor.
 pub fn lesser(floor: u64, key: u64, least: u64) -> u64
-    ensures { result ≡ lesserOf floor key least }
+    ensures { result ≡ lesser_of floor key least }
 {
     if floor <= key && key < least {
         key

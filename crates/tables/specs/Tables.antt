@@ -14,8 +14,8 @@
 -- What makes that the check of an alphabet, whatever the order in which it looks:
 --
 --   AcceptsLawful         points of the shape sh are not refused exactly if they can be the points of an alphabet
---   Fine pts i             no part of the point at index i is too large, and no point at a smaller index equals it
---   Refusal sh pts f       what the fault f says of a list: all that is looked at before is as it must be, and this is not
+--   Fine pts i            no part of the point at index i is too large, and no point at a smaller index equals it
+--   Refusal sh pts f      what the fault f says of a list: all that is looked at before is as it must be, and this is not
 --   TellsFirst            a list is refused with the first fault: what it says holds
 --   KeepsPoints           a table over a list that passes has the list's points
 use Rattle.std.specs.Prelude.{◌≡◌, ℕ, zero, suc, ◌+◌, ◌<◌, ◌≤◌, Bool, true, false, cond, not, ◌&&◌, ◌||◌, ◌⊎◌, List, [], ◌∷◌, map, length, take, ℤ, pos, negsuc, is_some, Some, None, Option, ◌==◌, ◌≢◌, nat_lt, slice_index_or}

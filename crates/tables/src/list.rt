@@ -1,7 +1,7 @@
 // Checked lists of points.
 ghost use Rattle.std.specs.Prelude.{◌≡◌, true, List, [], ◌∷◌, map, is_ok, if◌then◌else◌};
 ghost use Rattle.faults.specs.Refusals.{answer};
-ghost use Rattle.points.specs.Points.{origin, whole as wholeShape, pair as pairShape};
+ghost use Rattle.points.specs.Points.{origin, whole as whole_shape, pair as pair_shape};
 ghost use Rattle.tables.specs.Tables.{table_fault, passes, whole_points, pair_points};
 
 use crate::check::check;
@@ -29,7 +29,7 @@ const PAIR_ORIGIN: &[Pair] = &[Pair { re: 0, im: 0 }];
 #[derive(Clone, Copy)]
 pub struct WholePoints<'a> {
     points: &'a [Whole],
-    ghost limits: { passes wholeShape (whole_points points.now) ≡ true },
+    ghost limits: { passes whole_shape (whole_points points.now) ≡ true },
 }
 
 impl<'a> WholePoints<'a> {
@@ -44,7 +44,7 @@ impl<'a> WholePoints<'a> {
 
     // Takes the list in place of the one that is held; a refusal keeps that.
     pub fn lend(&mut self, points: &'a [Whole]) -> Result<(), AlphabetFault>
-        ensures answer { result ≡ answer (table_fault wholeShape (whole_points points.now)) tt }
+        ensures answer { result ≡ answer (table_fault whole_shape (whole_points points.now)) tt }
         ensures list { self.new.points.now ≡ (if is_ok result then points.now else self.old.points.now) }
     {
         check(points)?;
@@ -67,7 +67,7 @@ impl<'a> PointList for WholePoints<'a> {
 #[derive(Clone, Copy)]
 pub struct PairPoints<'a> {
     points: &'a [Pair],
-    ghost limits: { passes pairShape (pair_points points.now) ≡ true },
+    ghost limits: { passes pair_shape (pair_points points.now) ≡ true },
 }
 
 impl<'a> PairPoints<'a> {
@@ -82,7 +82,7 @@ impl<'a> PairPoints<'a> {
 
     // Takes the list in place of the one that is held; a refusal keeps that.
     pub fn lend(&mut self, points: &'a [Pair]) -> Result<(), AlphabetFault>
-        ensures answer { result ≡ answer (table_fault pairShape (pair_points points.now)) tt }
+        ensures answer { result ≡ answer (table_fault pair_shape (pair_points points.now)) tt }
         ensures list { self.new.points.now ≡ (if is_ok result then points.now else self.old.points.now) }
     {
         check(points)?;

@@ -20,13 +20,13 @@ pub overflow_mul-result : goal.overflow_mul-result
 overflow_mul-result g c =
     let a = answered g c in
     let side = c.args.self.now.side in
-    record { fits = omega (arith, mul-add-lt c.in_ok-re.re c.size.result c.in_ok-im.im c.size.result a.0 a.1, square_fits (g.P.Alphabet.points side) c.size.result (g.met.P.Alphabet.lawful side) c.size.ensures) }
+    record { fits = omega (arith, mul-add-lt c.in_ok-re.re c.size.result c.in_ok-im.im c.size.result a.0 a.1, mul-add-lt c.in_ok-im.im c.size.result c.in_ok-re.re c.size.result a.1 a.0, square_fits (g.P.Alphabet.points side) c.size.result (g.met.P.Alphabet.lawful side) c.size.ensures) }
 
 pub overflow_add-result : goal.overflow_add-result
 overflow_add-result g c =
     let a = answered g c in
     let side = c.args.self.now.side in
-    record { fits = omega (arith, mul-add-lt c.in_ok-re.re c.size.result c.in_ok-im.im c.size.result a.0 a.1, square_fits (g.P.Alphabet.points side) c.size.result (g.met.P.Alphabet.lawful side) c.size.ensures) }
+    record { fits = omega (arith, mul-add-lt c.in_ok-re.re c.size.result c.in_ok-im.im c.size.result a.0 a.1, mul-add-lt c.in_ok-im.im c.size.result c.in_ok-re.re c.size.result a.1 a.0, square_fits (g.P.Alphabet.points side) c.size.result (g.met.P.Alphabet.lawful side) c.size.ensures) }
 
 pub returns : goal.returns
 returns g c = (answered g c).2
