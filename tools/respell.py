@@ -8,8 +8,14 @@ usage: python3 tools/respell.py
 import glob
 import re
 
-# A name that would fall together with a function of the same file.
-OTHERWISE = {"channel-count": "channel_word_count", "word-distance": "distance_of"}
+# Names that would fall together with a function of the same file, and those that hold a word in camel case.
+OTHERWISE = {
+    "channel-count": "channel_word_count",
+    "word-distance": "distance_of",
+    "natAbs-add": "nat_abs_add",
+    "natAbs-neg": "nat_abs_neg",
+    "natAbs-sub": "nat_abs_sub",
+}
 # Names that a `ghost use` gives.
 GIVEN = {"lesserOf": "lesser_of", "pairShape": "pair_shape", "realPoint": "real_point", "wholeShape": "whole_shape"}
 DECLARED = re.compile(r"^ *(?:(?:abbrev|unfoldable|opaque|pub|record|data) +)*(?P<name>[^\s:(){},.=|λ∷\[\]]+)(?P<binders>.*) : (?P<type>.*)$")

@@ -7,7 +7,7 @@ use Rattle.faults.specs.declared.alphabet.AlphabetFault.{AlphabetFault}
 use Rattle.faults.specs.declared.alphabet.AlphabetFault.TheVariants.{Index}
 use Rattle.faults.specs.Refusals.{answer}
 use Rattle.points.specs.Points.{Gaussian, origin, square, amount, Within, within, Shape, whole, pair, size_limit}
-use Rattle.points.proofs.Reach.{natAbs_sub, product_le, square_reach}
+use Rattle.points.proofs.Reach.{nat_abs_sub, product_le, square_reach}
 use Rattle.ranks.specs.Ranks.{first_in, next_in}
 use Rattle.ranks.proofs.Ranks.{some_first}
 use Rattle.ranks.proofs.Keys.{Keyed}
@@ -83,7 +83,7 @@ limit_256 pair = omega arith
 
 part_small : (u s : ℤ) (r : ℕ) → nat_abs u ≤ 1048576 → r ≤ 2047 → nat_abs s ≤ 15 → square (u -ℤ pos r *ℤ s) ≤ 1079281 * 1079281
 part_small u s r h k l =
-    square_reach (u -ℤ pos r *ℤ s) 1079281 (omega (arith, natAbs_sub u (pos r *ℤ s), product_le (pos r) s 2047 15 k l))
+    square_reach (u -ℤ pos r *ℤ s) 1079281 (omega (arith, nat_abs_sub u (pos r *ℤ s), product_le (pos r) s 2047 15 k l))
 
 pub amount_small : (u : Gaussian) (r : ℕ) (s : Gaussian) → Asked u r → Within 15 s → amount u r s < 2 ^ 42
 amount_small u r s a w =

@@ -3,7 +3,7 @@ use Rattle.std.proofs.Common.{◌≡◌, ℕ, zero, suc, ◌+◌, ◌-◌, ◌/�
 use lib.Signed.{mag}
 use Rattle.std.proofs.lemmas.Nat.{div_below, div-add-mod', mod_below, pow_below}
 use Rattle.std.proofs.lemmas.Int.{ints, to_z-of_z}
-use Rattle.points.proofs.Reach.{natAbs_add}
+use Rattle.points.proofs.Reach.{nat_abs_add}
 use Rattle.blocks.specs.Rounding.{down, RoundsDown, rounded}
 
 pub rounded_is : (e : ℕ) (w : ℤ) → 0 < e → down (w +ℤ pos (2 ^ (e - 1))) (2 ^ e) ≡ rounded e w
@@ -27,7 +27,7 @@ mag_abs (pos n) = (omega arith, omega arith)
 mag_abs (negsuc n) = (omega arith, omega arith)
 
 sum_small : (w : ℤ) (n : ℕ) → SFits w32 w → n < 256 → mag (w +ℤ pos n) < 4294967296
-sum_small w n f h = omega (arith, f.sfits, mag_abs w, mag_abs (w +ℤ pos n), natAbs_add w (pos n))
+sum_small w n f h = omega (arith, f.sfits, mag_abs w, mag_abs (w +ℤ pos n), nat_abs_add w (pos n))
 
 half_small : (e : ℕ) → e ≤ 8 → 2 ^ (e - 1) < 256
 half_small e h = pow_below (e - 1) 8 (omega arith)

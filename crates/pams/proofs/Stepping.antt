@@ -9,7 +9,7 @@ use Rattle.std.proofs.lemmas.Bool.{cases_order, cases_lt, le-leb, lt-leb}
 use Rattle.std.proofs.lemmas.Bool.Decides.{nat_tests}
 use Rattle.std.specs.Option.{SomeIff}
 use Rattle.points.specs.Points.{square, amount, real}
-use Rattle.points.proofs.Reach.{natAbs_add, fits_32}
+use Rattle.points.proofs.Reach.{nat_abs_add, fits_32}
 use Rattle.ranks.specs.Ranks.{before, first_in, next_in}
 use Rattle.ranks.proofs.Ranks.{first_is, next_is, last_is}
 use Rattle.alphabets.specs.Questions.{amounts}
@@ -190,7 +190,7 @@ pub middle_fits : (n r : ℕ) → n ≤ 16 → r ≤ 2047 → SFits w32 (pos ((n
 middle_fits n r h k = record { sfits = omega (arith, middle_small n r h k) }
 
 stand_reach : (n : ℕ) (u : ℤ) (r : ℕ) → n ≤ 16 → nat_abs u ≤ 1048576 → r ≤ 2047 → nat_abs (stand n u r) ≤ 1079281
-stand_reach n u r h a k = omega (arith, middle_small n r h k, natAbs_add u (pos ((n - 1) * r)))
+stand_reach n u r h a k = omega (arith, middle_small n r h k, nat_abs_add u (pos ((n - 1) * r)))
 
 pub stand_held : (n : ℕ) (u : ℤ) (r : ℕ) → n ≤ 16 → r ≤ 2047 → SFits w32 u → to_z w32 (of_z w32 u) +ℤ to_z w32 ((n - 1) * r) ≡ stand n u r
 stand_held n u r h k f = rw (to_z_pos w32 ((n - 1) * r) (omega (arith, middle_small n r h k)), to_z-of_z w32 u f) refl

@@ -5,28 +5,28 @@ use Rattle.std.proofs.lemmas.Int.{ints, to_z-of_z}
 use Rattle.std.proofs.lemmas.Nat.{mul-le}
 use Rattle.points.specs.Points.{square}
 
-natAbs_neg : (z : ℤ) → nat_abs (neg_ℤ z) ≡ nat_abs z
-natAbs_neg (pos zero) = refl
-natAbs_neg (pos (suc n)) = refl
-natAbs_neg (negsuc n) = refl
+nat_abs_neg : (z : ℤ) → nat_abs (neg_ℤ z) ≡ nat_abs z
+nat_abs_neg (pos zero) = refl
+nat_abs_neg (pos (suc n)) = refl
+nat_abs_neg (negsuc n) = refl
 
 nat_abs_mul : (a b : ℤ) → nat_abs (a *ℤ b) ≡ nat_abs a * nat_abs b
 nat_abs_mul (pos a) (pos b) = refl
-nat_abs_mul (pos a) (negsuc b) = natAbs_neg (pos (a * suc b))
-nat_abs_mul (negsuc a) (pos b) = natAbs_neg (pos (suc a * b))
+nat_abs_mul (pos a) (negsuc b) = nat_abs_neg (pos (a * suc b))
+nat_abs_mul (negsuc a) (pos b) = nat_abs_neg (pos (suc a * b))
 nat_abs_mul (negsuc a) (negsuc b) = refl
 
-pub natAbs_add : (a b : ℤ) → nat_abs (a +ℤ b) ≤ nat_abs a + nat_abs b
-natAbs_add (pos a) (pos b) = omega (arith, ints)
-natAbs_add (pos a) (negsuc b) = omega (arith, ints)
-natAbs_add (negsuc a) (pos b) = omega (arith, ints)
-natAbs_add (negsuc a) (negsuc b) = omega (arith, ints)
+pub nat_abs_add : (a b : ℤ) → nat_abs (a +ℤ b) ≤ nat_abs a + nat_abs b
+nat_abs_add (pos a) (pos b) = omega (arith, ints)
+nat_abs_add (pos a) (negsuc b) = omega (arith, ints)
+nat_abs_add (negsuc a) (pos b) = omega (arith, ints)
+nat_abs_add (negsuc a) (negsuc b) = omega (arith, ints)
 
-pub natAbs_sub : (a b : ℤ) → nat_abs (a -ℤ b) ≤ nat_abs a + nat_abs b
-natAbs_sub (pos a) (pos b) = omega (arith, ints)
-natAbs_sub (pos a) (negsuc b) = omega (arith, ints)
-natAbs_sub (negsuc a) (pos b) = omega (arith, ints)
-natAbs_sub (negsuc a) (negsuc b) = omega (arith, ints)
+pub nat_abs_sub : (a b : ℤ) → nat_abs (a -ℤ b) ≤ nat_abs a + nat_abs b
+nat_abs_sub (pos a) (pos b) = omega (arith, ints)
+nat_abs_sub (pos a) (negsuc b) = omega (arith, ints)
+nat_abs_sub (negsuc a) (pos b) = omega (arith, ints)
+nat_abs_sub (negsuc a) (negsuc b) = omega (arith, ints)
 
 pub product_le : (r s : ℤ) (m n : ℕ) → nat_abs r ≤ m → nat_abs s ≤ n → nat_abs (r *ℤ s) ≤ m * n
 product_le r s m n h k = rw nat_abs_mul (mul-le (nat_abs r) (nat_abs s) m n h k)

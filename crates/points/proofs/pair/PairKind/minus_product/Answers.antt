@@ -1,22 +1,22 @@
 use Rattle.std.proofs.Common.{◌≡◌, ◌≤◌, ℤ, ◌+ℤ◌, ◌-ℤ◌, ◌*ℤ◌, nat_abs, ◌∙◌, arith, w32, SFits, to_z, of_z, rules}
 use Rattle.std.proofs.lemmas.Int.{to_z-of_z}
 use Rattle.points.specs.Points.{gaussian}
-use Rattle.points.proofs.Reach.{natAbs_sub, natAbs_add, fits_32}
+use Rattle.points.proofs.Reach.{nat_abs_sub, nat_abs_add, fits_32}
 use Rattle.points.proofs.pair.PairKind.minus_product.Goals as goal
 
 -- two products join in one word
 joined_sub : (a b : ℤ) → nat_abs a ≤ 30720 → nat_abs b ≤ 30720 → SFits w32 (a -ℤ b)
-joined_sub a b h k = fits_32 (a -ℤ b) (omega (arith, natAbs_sub a b))
+joined_sub a b h k = fits_32 (a -ℤ b) (omega (arith, nat_abs_sub a b))
 
 joined_add : (a b : ℤ) → nat_abs a ≤ 30720 → nat_abs b ≤ 30720 → SFits w32 (a +ℤ b)
-joined_add a b h k = fits_32 (a +ℤ b) (omega (arith, natAbs_add a b))
+joined_add a b h k = fits_32 (a +ℤ b) (omega (arith, nat_abs_add a b))
 
 -- and so do a target and both
 less_sub : (u a b : ℤ) → nat_abs u ≤ 1048576 → nat_abs a ≤ 30720 → nat_abs b ≤ 30720 → SFits w32 (u -ℤ (a -ℤ b))
-less_sub u a b g h k = fits_32 (u -ℤ (a -ℤ b)) (omega (arith, natAbs_sub a b, natAbs_sub u (a -ℤ b)))
+less_sub u a b g h k = fits_32 (u -ℤ (a -ℤ b)) (omega (arith, nat_abs_sub a b, nat_abs_sub u (a -ℤ b)))
 
 less_add : (u a b : ℤ) → nat_abs u ≤ 1048576 → nat_abs a ≤ 30720 → nat_abs b ≤ 30720 → SFits w32 (u -ℤ (a +ℤ b))
-less_add u a b g h k = fits_32 (u -ℤ (a +ℤ b)) (omega (arith, natAbs_add a b, natAbs_sub u (a +ℤ b)))
+less_add u a b g h k = fits_32 (u -ℤ (a +ℤ b)) (omega (arith, nat_abs_add a b, nat_abs_sub u (a +ℤ b)))
 
 pub overflow_sub-re : goal.overflow_sub-re
 overflow_sub-re c =
