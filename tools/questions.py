@@ -2,7 +2,7 @@
 """What a question about rank costs, and what the program rankbench must print.
 
     tools/questions.py                  nanoseconds and instructions for each question, as a table, beside plain C
-                                        (needs target/bin/rankbench, which `rt check rankbench` makes, gcc and valgrind)
+                                        (needs crates/rankbench/out/rankbench, which `rt run` there makes, gcc and valgrind)
     tools/questions.py --digests         what the program prints without arguments, computed here by a plain sort
     tools/questions.py --check FILE     compare FILE with that
 
@@ -14,7 +14,7 @@ import subprocess
 import sys
 import tempfile
 
-PROGRAM = "target/bin/rankbench"
+PROGRAM = "crates/rankbench/out/rankbench"
 SIZES = [2, 4, 8, 16]
 RANKINGS = 64
 
