@@ -3,7 +3,6 @@ ghost use Rattle.std.specs.Prelude.{◌≡◌, List, length, slice_index_or};
 ghost use Rattle.std.specs.Result.{result_map_both};
 ghost use Rattle.points.specs.Points.{Gaussian, Within, origin};
 ghost use Rattle.alphabets.specs.Alphabets.{Lawful, point_answer};
-ghost use Rattle.alphabets.specs.Questions.{first_answer, next_answer};
 
 use faults::alphabet::AlphabetFault;
 use points::kind::Kind;
@@ -19,19 +18,6 @@ pub trait Alphabet {
 
     fn point(&self, index: usize) -> Result<Self::Point, AlphabetFault>
         ensures { result_map_both Self.Point.Kind.meaning (λ f. f) result ≡ point_answer (points self.now) index };
-
-    // The index first in rank.
-    fn first(&self, target: Self::Point, gain: u32) -> Result<usize, AlphabetFault>
-        ensures { result ≡ first_answer (points self.now) (Self.Point.Kind.meaning target) gain };
-
-    // The index that follows in rank, or none after the last.
-    fn next(
-        &self,
-        target: Self::Point,
-        gain: u32,
-        index: usize,
-    ) -> Result<Option<usize>, AlphabetFault>
-        ensures { result ≡ next_answer (points self.now) (Self.Point.Kind.meaning target) gain index };
 
     ghost lawful: { (a : Self) → Lawful Self.Point.Kind.shape (points a) };
 }

@@ -5,7 +5,7 @@ ghost use Rattle.grids.specs.GridsLemmas.{grid_lawful};
 
 use crate::weigh::{next_sum, weigh};
 use alphabets::alphabet::{Alphabet, point_or_origin};
-use alphabets::question::ask;
+use alphabets::question::{Ranked, ask};
 use faults::alphabet::AlphabetFault;
 use points::kind::Kind;
 use points::pair::Pair;
@@ -49,7 +49,9 @@ impl<P: Alphabet<Point = Whole>> Alphabet for Grid<P> {
             im: im.value,
         })
     }
+}
 
+impl<P: Ranked<Point = Whole>> Ranked for Grid<P> {
     fn first(&self, target: Pair, gain: u32) -> Result<usize, AlphabetFault> {
         let re = self.side.first(Whole { value: target.re }, gain)?;
         let im = self.side.first(Whole { value: target.im }, gain)?;

@@ -5,7 +5,7 @@ ghost use Rattle.pams.specs.PamsLemmas.{sized, pam_lawful};
 
 use crate::steps::{first_step, half_steps, next_step};
 use alphabets::alphabet::Alphabet;
-use alphabets::question::ask;
+use alphabets::question::{Ranked, ask};
 use faults::alphabet::AlphabetFault;
 use points::kind::Kind;
 use points::whole::Whole;
@@ -75,7 +75,9 @@ impl Alphabet for Pam {
             Err(AlphabetFault::Index)
         }
     }
+}
 
+impl Ranked for Pam {
     fn first(&self, target: Whole, gain: u32) -> Result<usize, AlphabetFault> {
         ask(target, gain)?;
         let size = self.size.count();

@@ -1,6 +1,6 @@
 // The kind of a point: what targets and amounts need of it.
-ghost use Rattle.std.specs.Prelude.{◌≡◌, ◌+◌, ◌*◌, ◌^◌, ◌<◌, ◌≤◌, length, Decides};
-ghost use Rattle.points.specs.Points.{Gaussian, gaussian, minus, times, amount, Within, within, Shape, project, levels, size_limit, parts, value_at};
+ghost use Rattle.std.specs.Prelude.{◌≡◌, ◌+◌, ◌*◌, ◌^◌, ◌<◌, ◌≤◌, length};
+ghost use Rattle.points.specs.Points.{Gaussian, gaussian, minus, times, amount, Within, Shape, project, levels, parts, value_at};
 
 pub trait Kind: Copy {
     // how many levels a block of this kind has
@@ -8,9 +8,6 @@ pub trait Kind: Copy {
 
     // how many words a channel or received value takes
     const PARTS: usize;
-
-    // how many points an alphabet of this kind has at most
-    const MOST_POINTS: usize;
 
     ghost shape: { Shape };
 
@@ -21,9 +18,6 @@ pub trait Kind: Copy {
 
     fn part_count() -> usize
         ensures { result ≡ parts shape };
-
-    fn size_limit() -> usize
-        ensures { result ≡ size_limit shape };
 
     // The value with these parts; a whole number takes the first alone.
     fn from_parts(re: i32, im: i32) -> Self
@@ -39,13 +33,6 @@ pub trait Kind: Copy {
 
     fn imaginary(self) -> i32
         ensures { result ≡ (meaning self).im };
-
-    // No part is larger than the bound, whatever its sign.
-    fn within(self, bound: u32) -> bool
-        ensures { result ≡ within bound (meaning self) };
-
-    fn same(self, other: Self) -> bool
-        ensures { Decides result (self ≡ other) };
 
     // u − r·s, for the target u that `self` is.
     fn minus_product(self, entry: Self, point: Self) -> Self

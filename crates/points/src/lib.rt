@@ -2,6 +2,7 @@
 #![tactic(auto)]
 
 pub mod kind;
+pub mod limits;
 pub mod pair;
 mod part;
 pub mod whole;

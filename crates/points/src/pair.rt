@@ -16,8 +16,6 @@ impl Kind for Pair {
 
     const PARTS: usize = 2;
 
-    const MOST_POINTS: usize = 256;
-
     ghost shape = { pair_shape };
 
     ghost meaning = { λ p. gaussian p.re p.im };
@@ -32,10 +30,6 @@ impl Kind for Pair {
 
     fn part_count() -> usize {
         Self::PARTS
-    }
-
-    fn size_limit() -> usize {
-        Self::MOST_POINTS
     }
 
     fn from_parts(re: i32, im: i32) -> Pair {
@@ -55,14 +49,6 @@ impl Kind for Pair {
 
     fn imaginary(self) -> i32 {
         self.im
-    }
-
-    fn within(self, bound: u32) -> bool {
-        bound >= self.re.unsigned_abs() && bound >= self.im.unsigned_abs()
-    }
-
-    fn same(self, other: Pair) -> bool {
-        other.re == self.re && other.im == self.im
     }
 
     fn minus_product(self, entry: Pair, point: Pair) -> Pair {

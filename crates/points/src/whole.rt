@@ -15,8 +15,6 @@ impl Kind for Whole {
 
     const PARTS: usize = 1;
 
-    const MOST_POINTS: usize = 16;
-
     ghost shape = { whole_shape };
 
     ghost meaning = { λ p. real_point p.value };
@@ -31,10 +29,6 @@ impl Kind for Whole {
 
     fn part_count() -> usize {
         Self::PARTS
-    }
-
-    fn size_limit() -> usize {
-        Self::MOST_POINTS
     }
 
     fn from_parts(re: i32, _im: i32) -> Whole {
@@ -53,14 +47,6 @@ impl Kind for Whole {
 
     fn imaginary(self) -> i32 {
         0
-    }
-
-    fn within(self, bound: u32) -> bool {
-        bound >= self.value.unsigned_abs()
-    }
-
-    fn same(self, other: Whole) -> bool {
-        other.value == self.value
     }
 
     fn minus_product(self, entry: Whole, point: Whole) -> Whole {

@@ -1,5 +1,6 @@
 // What tables and questions refuse, and which refusal comes first.
 use alphabets::alphabet::Alphabet;
+use alphabets::question::Ranked;
 use faults::alphabet::AlphabetFault;
 use faults::report::{Layer, Report};
 use grids::grid::Grid;
@@ -167,7 +168,7 @@ fn numbered(number: Option<u8>) -> Option<(u8, usize)> {
     }
 }
 
-fn check_questions<B: Alphabet>(rt: &impl Abort, alphabet: &B) {
+fn check_questions<B: Ranked>(rt: &impl Abort, alphabet: &B) {
     for (re, im, gain, past, first, next) in &QUESTIONS {
         let target = <B::Point as Kind>::from_parts(*re, *im);
         check_answer(rt, alphabet.first(target, *gain), numbered(*first));
@@ -193,7 +194,7 @@ fn questions(rt: HostRuntime) {
 }
 
 // The imaginary part of a pair's target counts too.
-fn check_imaginary<B: Alphabet<Point = Pair>>(rt: &impl Abort, alphabet: &B) {
+fn check_imaginary<B: Ranked<Point = Pair>>(rt: &impl Abort, alphabet: &B) {
     for im in &[1_048_577, -1_048_577, i32::MIN, i32::MAX] {
         let target = Pair { re: 0, im: *im };
         check_answer(rt, alphabet.first(target, 0), Some((14, 0)));

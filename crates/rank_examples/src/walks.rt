@@ -1,5 +1,6 @@
 // First and next, against a plain sort of amounts and indices.
 use alphabets::alphabet::Alphabet;
+use alphabets::question::Ranked;
 use grids::grid::Grid;
 use pams::pam::{Pam, PamSize};
 use points::kind::Kind;
@@ -74,7 +75,7 @@ fn sorted<B: Alphabet>(
 }
 
 // From the first through every next, and none after the last.
-fn check_walk<B: Alphabet>(
+fn check_walk<B: Ranked>(
     rt: &impl Abort,
     heap: Global,
     alphabet: &B,
@@ -91,7 +92,7 @@ fn check_walk<B: Alphabet>(
     Ok(())
 }
 
-fn check_whole<B: Alphabet<Point = Whole>>(
+fn check_whole<B: Ranked<Point = Whole>>(
     rt: &impl Abort,
     heap: Global,
     alphabet: &B,
@@ -104,7 +105,7 @@ fn check_whole<B: Alphabet<Point = Whole>>(
     Ok(())
 }
 
-fn check_pairs<B: Alphabet<Point = Pair>>(
+fn check_pairs<B: Ranked<Point = Pair>>(
     rt: &impl Abort,
     heap: Global,
     alphabet: &B,

@@ -1,6 +1,6 @@
 // Questions, asked many times.
 use crate::draw::Draw;
-use alphabets::alphabet::Alphabet;
+use alphabets::question::Ranked;
 use faults::alphabet::AlphabetFault;
 use rankings::ranking::Ranking;
 
@@ -13,7 +13,7 @@ pub enum Question {
 }
 
 // The sum of the answers, where none counts as the size.
-pub fn ask<B: Alphabet>(
+pub fn ask<B: Ranked>(
     question: Question,
     alphabet: &B,
     times: u32,
@@ -36,7 +36,7 @@ pub fn ask<B: Alphabet>(
 }
 
 // The sum over whole rankings of each index times its place, counted from 1.
-pub fn digest<B: Alphabet>(alphabet: &B, rankings: u32) -> Result<u64, AlphabetFault> {
+pub fn digest<B: Ranked>(alphabet: &B, rankings: u32) -> Result<u64, AlphabetFault> {
     let mut draw = Draw::new();
     let mut sum: u64 = 0;
     for _ in 0..rankings {

@@ -9,6 +9,7 @@ use crate::ask::{Question, ask, digest};
 use crate::error::BenchError;
 use crate::task::{Family, Task};
 use alphabets::alphabet::Alphabet;
+use alphabets::question::Ranked;
 use grids::grid::Grid;
 use pams::pam::{Pam, PamSize};
 use points::kind::Kind;
@@ -68,7 +69,7 @@ fn points<B: Alphabet>(heap: Global, alphabet: &B) -> Result<Vec<B::Point>, Benc
     Ok(points)
 }
 
-fn work<B: Alphabet>(
+fn work<B: Ranked>(
     rt: &HostRuntime,
     task: Task,
     family: Family,
@@ -103,7 +104,7 @@ fn work<B: Alphabet>(
 }
 
 // How long a question takes, with what its arguments take.
-fn nanoseconds<B: Alphabet>(
+fn nanoseconds<B: Ranked>(
     rt: &HostRuntime,
     question: Question,
     alphabet: &B,

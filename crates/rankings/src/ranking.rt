@@ -5,7 +5,7 @@ ghost use Rattle.faults.specs.Refusals.{answer};
 ghost use Rattle.ranks.specs.Ranks.{ranking, EachOnce, Ascends, Walked};
 ghost use Rattle.alphabets.specs.Questions.{rank_fault, amounts};
 
-use alphabets::alphabet::Alphabet;
+use alphabets::question::Ranked;
 use faults::alphabet::AlphabetFault;
 use points::kind::Kind;
 
@@ -20,7 +20,7 @@ pub struct Ranking {
 
 impl Ranking {
     // The first index, and then what follows, up to the last.
-    pub fn of<B: Alphabet>(
+    pub fn of<B: Ranked>(
         alphabet: &B,
         target: B::Point,
         gain: u32,

@@ -5,6 +5,7 @@ ghost use Rattle.tables.specs.Tables.{among, table_fault, AcceptsLawful, TellsFi
 
 use faults::alphabet::AlphabetFault;
 use points::kind::Kind;
+use points::limits::{is_same, is_within, most_points};
 
 // The largest part of a point.
 const PART_LIMIT: u32 = 15;
@@ -14,7 +15,7 @@ fn holds<K: Kind>(points: &[K], point: K) -> bool
     ensures { result ≡ among (K.meaning point) (map K.meaning points.now) }
 {
     for other in points {
-        if other.same(point) {
+        if is_same(*other, point) {
             return true;
         }
     }
@@ -27,11 +28,11 @@ pub fn check<K: Kind>(points: &[K]) -> Result<(), AlphabetFault>
     ensures law { AcceptsLawful }
     ensures first { TellsFirst }
 {
-    if points.is_empty() || points.len() > K::size_limit() {
+    if points.is_empty() || points.len() > most_points::<K>() {
         return Err(AlphabetFault::TableSize);
     }
     for (index, point) in points.iter().enumerate() {
-        if !point.within(PART_LIMIT) {
+        if !is_within(*point, PART_LIMIT) {
             return Err(AlphabetFault::Part { index });
         }
         if holds(&points[..index], *point) {

@@ -6,7 +6,7 @@ ghost use Rattle.tables.specs.TablesLemmas.{table_lawful};
 use crate::least::least_from;
 use crate::list::{PairPoints, PointList, WholePoints};
 use alphabets::alphabet::Alphabet;
-use alphabets::question::ask;
+use alphabets::question::{Ranked, ask};
 use faults::alphabet::AlphabetFault;
 use points::kind::Kind;
 use ranks::key::{index_of, rank_key};
@@ -48,7 +48,9 @@ impl<L: PointList> Alphabet for Table<L> {
             Err(AlphabetFault::Index)
         }
     }
+}
 
+impl<L: PointList> Ranked for Table<L> {
     fn first(&self, target: L::Point, gain: u32) -> Result<usize, AlphabetFault> {
         ask(target, gain)?;
         let least = least_from(self.list.as_slice(), target, gain, 0);

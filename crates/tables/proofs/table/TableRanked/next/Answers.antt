@@ -2,7 +2,7 @@ use Rattle.std.proofs.Common.{arith}
 use Rattle.alphabets.proofs.Ranked.{asked, accepted}
 use Rattle.tables.specs.Listed.{read_near, read_key, few_read}
 use Rattle.tables.specs.TablesLemmas.{passed_lawful, table_past, table_next}
-use Rattle.tables.proofs.table.TableAlphabet.next.Goals as goal
+use Rattle.tables.proofs.table.TableRanked.next.Goals as goal
 
 pub returns-then-index-points : goal.returns-then-index-points
 returns-then-index-points g c =

@@ -5,7 +5,7 @@ use Rattle.alphabets.specs.Questions.{amounts}
 use Rattle.alphabets.proofs.Ranked.{accepted, told_first}
 use Rattle.pams.specs.Pams.{pam_size, pam_points}
 use Rattle.pams.proofs.Stepping.{told_steps}
-use Rattle.pams.proofs.pam.PamAlphabet.first.Goals as goal
+use Rattle.pams.proofs.pam.PamRanked.first.Goals as goal
 
 pub returns : goal.returns
 returns c =

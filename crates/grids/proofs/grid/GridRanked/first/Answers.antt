@@ -5,8 +5,8 @@ use Rattle.points.specs.Points.{gaussian}
 use Rattle.alphabets.specs.Questions.{first_answer}
 use Rattle.grids.specs.Grids.{grid_points}
 use Rattle.grids.proofs.Weighing.{grid_answered, square_fits}
-use Rattle.grids.proofs.grid.GridAlphabet.first.Given as given
-use Rattle.grids.proofs.grid.GridAlphabet.first.Goals as goal
+use Rattle.grids.proofs.grid.GridRanked.first.Given as given
+use Rattle.grids.proofs.grid.GridRanked.first.Goals as goal
 
 answered : (g : given.Over) (c : goal.After-size g) → (c.in_ok-re.re < c.size.result) × (c.in_ok-im.im < c.size.result) × (Ok (c.in_ok-re.re * c.size.result + c.in_ok-im.im) ≡ first_answer (grid_points (g.P.Alphabet.points c.args.self.now.side)) (gaussian c.args.target.re c.args.target.im) c.args.gain)
 answered g c =

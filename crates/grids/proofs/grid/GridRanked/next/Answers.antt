@@ -4,7 +4,7 @@ use Rattle.alphabets.proofs.Ranked.{accepted, past_next}
 use Rattle.grids.specs.Grids.{grid_points}
 use Rattle.grids.specs.GridsLemmas.{grid_size}
 use Rattle.grids.proofs.Weighing.{row_count, column_count, sums_small, next_answered}
-use Rattle.grids.proofs.grid.GridAlphabet.next.Goals as goal
+use Rattle.grids.proofs.grid.GridRanked.next.Goals as goal
 
 pub returns-then-side-index : goal.returns-then-side-index
 returns-then-side-index g c =

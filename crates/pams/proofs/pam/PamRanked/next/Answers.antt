@@ -6,7 +6,7 @@ use Rattle.alphabets.proofs.Ranked.{accepted, past_next, told_next}
 use Rattle.pams.specs.Pams.{pam_size, pam_points}
 use Rattle.pams.specs.PamsLemmas.{pam_length}
 use Rattle.pams.proofs.Stepping.{told_steps}
-use Rattle.pams.proofs.pam.PamAlphabet.next.Goals as goal
+use Rattle.pams.proofs.pam.PamRanked.next.Goals as goal
 
 pub returns-then-index-size : goal.returns-then-index-size
 returns-then-index-size c =

@@ -1,6 +1,6 @@
 use Rattle.alphabets.proofs.Ranked.{accepted}
 use Rattle.tables.specs.TablesLemmas.{passed_lawful, table_first}
-use Rattle.tables.proofs.table.TableAlphabet.first.Goals as goal
+use Rattle.tables.proofs.table.TableRanked.first.Goals as goal
 
 pub least_from-least-requires : goal.least_from-least-requires
 least_from-least-requires g c =
