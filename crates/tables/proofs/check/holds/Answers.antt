@@ -4,14 +4,14 @@ use Rattle.tables.specs.Tables.{among}
 use Rattle.tables.specs.Same.{among_turn}
 use Rattle.tables.proofs.check.holds.Goals as goal
 
-pub returns-then-same : goal.returns-then-same
-returns-then-same g c =
-    let turn = among_turn g.K.Kind.meaning g.met.K.Kind.faithful c.args.points.now c.loop-other.other-index c.other-item.result c.args.point _ (omega arith) c.other-item.is c.if-same.ensures in
+pub returns-then-is_same : goal.returns-then-is_same
+returns-then-is_same g c =
+    let turn = among_turn g.K.Kind.meaning g.met.K.Kind.faithful c.args.points.now c.loop-other.other-index c.other-item.result c.args.point _ (omega arith) c.other-item.is c.if-is_same.ensures in
     sym (c.loop-other.invariant ∙ turn)
 
 pub loop-other-preserved : goal.loop-other-preserved
 loop-other-preserved g c =
-    let turn = among_turn g.K.Kind.meaning g.met.K.Kind.faithful c.args.points.now c.loop-other.other-index c.other-item.result c.args.point _ (omega arith) c.other-item.is c.if-same.ensures in
+    let turn = among_turn g.K.Kind.meaning g.met.K.Kind.faithful c.args.points.now c.loop-other.other-index c.other-item.result c.args.point _ (omega arith) c.other-item.is c.if-is_same.ensures in
     c.loop-other.invariant ∙ turn
 
 pub returns : goal.returns
