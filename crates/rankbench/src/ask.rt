@@ -13,11 +13,7 @@ pub enum Question {
 }
 
 // The sum of the answers, where none counts as the size.
-pub fn ask<B: Ranked>(
-    question: Question,
-    alphabet: &B,
-    times: u32,
-) -> Result<u64, AlphabetFault> {
+pub fn ask<B: Ranked>(question: Question, alphabet: &B, times: u32) -> Result<u64, AlphabetFault> {
     let size = alphabet.size();
     let mut draw = Draw::new();
     let mut sum: u64 = 0;

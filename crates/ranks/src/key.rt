@@ -1,6 +1,6 @@
 // Rank as one number: the smaller key comes before.
 ghost use Rattle.std.specs.Prelude.{◌≡◌, ◌^◌, ◌<◌};
-ghost use Rattle.ranks.specs.Keys.{key as key_of, lesser as lesser_of, index_of, KeyOrder, KeyIndex};
+ghost use Rattle.ranks.specs.Keys.{key as key_of, lesser as lesser_of, index_of as index_in_key, KeyOrder, KeyIndex};
 
 // Above every key.
 pub const NO_KEY: u64 = u64::MAX;
@@ -27,7 +27,7 @@ pub fn lesser(floor: u64, key: u64, least: u64) -> u64
 }
 
 pub fn index_of(key: u64) -> Option<usize>
-    ensures value { result ≡ index_of key }
+    ensures value { result ≡ index_in_key key }
     ensures index { KeyIndex }
 {
     if key == NO_KEY {
