@@ -1,4 +1,4 @@
-// What every alphabet answers about rank, by the list of its points, and what such a question must keep.
+// What a ranked alphabet answers, by the list of its points, and what a question about rank must keep.
 ghost use Rattle.std.specs.Prelude.{◌≡◌};
 ghost use Rattle.faults.specs.Refusals.{answer};
 ghost use Rattle.alphabets.specs.Questions.{rank_fault, first_answer, next_answer};
