@@ -1,13 +1,11 @@
 -- What a question about rank gives to its answer, and what the answer takes.
-use Rattle.std.proofs.Common.{◌≡◌, ℕ, ◌*◌, ◌^◌, ◌<◌, ◌≤◌, true, List, length, get_or, ℤ, pos, ◌-ℤ◌, ◌*ℤ◌, nat_abs, Some, Ok, Err, Option, unwrap_or, sym, refl, ap, ◌∙◌, arith}
+use Rattle.std.proofs.Common.{◌≡◌, ℕ, ◌*◌, ◌^◌, ◌<◌, ◌≤◌, true, List, length, get_or, ℤ, pos, ◌-ℤ◌, ◌*ℤ◌, nat_abs, Some, None, Ok, Err, Option, arith}
 use Rattle.std.proofs.lemmas.List.{length-map, get_or-map}
-use Rattle.std.proofs.lemmas.Bool.{lt-leb, le-leb}
 use Rattle.std.proofs.lemmas.Bool.Decides.{nat_tests}
 use Rattle.faults.specs.declared.alphabet.AlphabetFault.{AlphabetFault}
-use Rattle.faults.specs.declared.alphabet.AlphabetFault.TheVariants.{Index}
-use Rattle.faults.specs.Refusals.{answer}
 use Rattle.points.specs.Points.{Gaussian, origin, square, amount, Within, within, Shape, whole, pair, size_limit}
-use Rattle.points.proofs.Reach.{nat_abs_sub, product_le, square_reach}
+use Rattle.points.proofs.Reach.{product_le, square_reach}
+use Rattle.std.proofs.lemmas.Int.{ints}
 use Rattle.ranks.specs.Ranks.{first_in, next_in}
 use Rattle.ranks.proofs.Ranks.{some_first}
 use Rattle.ranks.proofs.Keys.{Keyed}
@@ -26,48 +24,30 @@ within_told b u e = record { re = grind (arith, nat_tests); im = grind (arith, n
 pub asked : (u : Gaussian) (r : ℕ) → askable u r ≡ true → Asked u r
 asked u r e = record { target = within_told 1048576 u (grind (arith, nat_tests)); gain = grind (arith, nat_tests) }
 
-pub accepted : (u : Gaussian) (r : ℕ) (t : Unit {0}) → Ok t ≡ answer (rank_fault u r) (tt {0}) → askable u r ≡ true
-accepted u r t e = grind arith
+pub accepted : (u : Gaussian) (r : ℕ) → rank_fault u r ≡ None → askable u r ≡ true
+accepted u r e = grind arith
 
 -- ---- answers
 
 module _ (pts : List Gaussian) (u : Gaussian) (r : ℕ) where
-  pub refused_first : (f : AlphabetFault) → Err f ≡ answer (rank_fault u r) (tt {0}) → Err f ≡ first_answer pts u r
-  refused_first f e = grind arith
-
-  pub refused_next : (i : ℕ) (f : AlphabetFault) → Err f ≡ answer (rank_fault u r) (tt {0}) → Err f ≡ next_answer pts u r i
-  refused_next i f e = grind arith
-
-  pub past_next : (i : ℕ) → askable u r ≡ true → length pts ≤ i → Err Index ≡ next_answer pts u r i
-  past_next i a h = rw (a, le-leb (length pts) i h) refl
-
   pub told_first : (k : ℕ) → askable u r ≡ true → first_in (amounts pts u r) ≡ Some k → Ok k ≡ first_answer pts u r
-  told_first k a e = rw (a, e) refl
+  told_first k a e = grind arith
 
   pub told_next : (i : ℕ) (k : Option ℕ) → askable u r ≡ true → i < length pts → next_in (amounts pts u r) i ≡ k → Ok k ≡ next_answer pts u r i
-  told_next i k a h e = rw (a, lt-leb (length pts) i h, e) refl
+  told_next i k a h e = grind (arith, nat_tests)
 
   -- ---- what an answer says
 
   pub first_told : (k : ℕ) → 0 < length pts → Ok k ≡ first_answer pts u r → (askable u r ≡ true) × (first_in (amounts pts u r) ≡ Some k)
   first_told k h e =
-      let ask : askable u r ≡ true = grind arith in
       let some = some_first (amounts pts u r) (omega (arith, length-map pts (amount u r), h)) in
-      let told : Ok k ≡ Ok (unwrap_or (first_in (amounts pts u r)) 0) = rw ask at e in
-      let value : k ≡ unwrap_or (first_in (amounts pts u r)) 0 = cc in
-      let same : k ≡ some.0 = value ∙ rw some.1 refl in
-      (ask, some.1 ∙ ap Some (sym same))
+      (grind arith, grind (arith, some.1))
 
   pub next_told : (i : ℕ) (k : Option ℕ) → askable u r ≡ true → i < length pts → Ok k ≡ next_answer pts u r i → k ≡ next_in (amounts pts u r) i
-  next_told i k a h e =
-      let told : Ok k ≡ Ok (next_in (amounts pts u r) i) = rw (a, lt-leb (length pts) i h) at e in
-      cc
+  next_told i k a h e = grind (arith, nat_tests)
 
   pub next_never : (i : ℕ) (f : AlphabetFault) → askable u r ≡ true → i < length pts → Err f ≡ next_answer pts u r i → ⊥
-  next_never i f a h e =
-      let told : Err f ≡ Ok (next_in (amounts pts u r) i) = rw (a, lt-leb (length pts) i h) at e in
-      let bad : ◌≡◌ {A = ℕ} 0 1 = cc in
-      omega arith
+  next_never i f a h e = grind (arith, nat_tests)
 
   -- ---- the amounts
 
@@ -83,7 +63,7 @@ limit_256 pair = omega arith
 
 part_small : (u s : ℤ) (r : ℕ) → nat_abs u ≤ 1048576 → r ≤ 2047 → nat_abs s ≤ 15 → square (u -ℤ pos r *ℤ s) ≤ 1079281 * 1079281
 part_small u s r h k l =
-    square_reach (u -ℤ pos r *ℤ s) 1079281 (omega (arith, nat_abs_sub u (pos r *ℤ s), product_le (pos r) s 2047 15 k l))
+    square_reach (u -ℤ pos r *ℤ s) 1079281 (omega (arith, ints, product_le (pos r) s 2047 15 k l))
 
 pub amount_small : (u : Gaussian) (r : ℕ) (s : Gaussian) → Asked u r → Within 15 s → amount u r s < 2 ^ 42
 amount_small u r s a w =

@@ -2,4 +2,5 @@
 #![tactic(auto)]
 
 pub mod alphabet;
+pub mod indices;
 pub mod question;

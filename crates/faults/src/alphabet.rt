@@ -20,11 +20,11 @@ pub enum AlphabetFault {
     Index,
 }
 
-impl AlphabetFault {
-    pub fn report(&self) -> Report
-        ensures { result ≡ alphabet_report self.now }
-    {
-        let (number, place) = match *self {
+impl From<AlphabetFault> for Report {
+    ghost from_gives = { λ fault report. report ≡ alphabet_report fault };
+
+    fn from(fault: AlphabetFault) -> Report {
+        let (number, place) = match fault {
             AlphabetFault::PamSize => (10, 0),
             AlphabetFault::TableSize => (11, 0),
             AlphabetFault::Part { index } => (12, index),

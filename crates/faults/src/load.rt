@@ -21,11 +21,11 @@ pub enum LoadFault {
     Received { word: usize },
 }
 
-impl LoadFault {
-    pub fn report(&self) -> Report
-        ensures { result ≡ load_report self.now }
-    {
-        let (number, place) = match *self {
+impl From<LoadFault> for Report {
+    ghost from_gives = { λ fault report. report ≡ load_report fault };
+
+    fn from(fault: LoadFault) -> Report {
+        let (number, place) = match fault {
             LoadFault::ExtraBits => (1, 0),
             LoadFault::ChannelCount => (21, 0),
             LoadFault::ReceivedCount => (22, 0),

@@ -1,7 +1,8 @@
 -- How far sums and products reach, part by part: a whole number has no imaginary part to count.
-use Rattle.std.proofs.Common.{◌≡◌, ℕ, ◌+◌, ◌*◌, ◌≤◌, ◌*ℤ◌, nat_abs, refl, arith}
+use Rattle.std.proofs.Common.{◌≡◌, ℕ, ◌+◌, ◌*◌, ◌≤◌, nat_abs, refl, arith}
 use Rattle.points.specs.Points.{Gaussian, origin, plus, minus, times, norm, Within, Shape, whole, pair}
-use Rattle.points.proofs.Reach.{nat_abs_add, nat_abs_sub, product_le, square_reach}
+use Rattle.std.proofs.lemmas.Int.{ints}
+use Rattle.points.proofs.Reach.{product_le, square_reach}
 
 -- what b allows of an imaginary part
 abbrev pub imaginary : Shape → ℕ → ℕ
@@ -43,21 +44,21 @@ pub times_inside : (sh : Shape) (r s : Gaussian) → Inside sh 2048 r → Inside
 times_inside sh r s h k =
     let p = products sh in
     record {
-      re = omega (arith, p.0, product_le r.re s.re 2048 15 h.re k.re, product_le r.im s.im (imaginary sh 2048) (imaginary sh 15) h.im k.im, nat_abs_sub (r.re *ℤ s.re) (r.im *ℤ s.im));
-      im = omega (arith, p.1, product_le r.re s.im 2048 (imaginary sh 15) h.re k.im, product_le r.im s.re (imaginary sh 2048) 15 h.im k.re, nat_abs_add (r.re *ℤ s.im) (r.im *ℤ s.re));
+      re = omega (arith, p.0, product_le r.re s.re 2048 15 h.re k.re, product_le r.im s.im (imaginary sh 2048) (imaginary sh 15) h.im k.im, ints);
+      im = omega (arith, p.1, product_le r.re s.im 2048 (imaginary sh 15) h.re k.im, product_le r.im s.re (imaginary sh 2048) 15 h.im k.re, ints);
     }
 
 module _ (sh : Shape) (a b : ℕ) (u v : Gaussian) (h : Inside sh a u) (k : Inside sh b v) where
   pub plus_inside : Inside sh (a + b) (plus u v)
   plus_inside = record {
-    re = omega (arith, h.re, k.re, nat_abs_add u.re v.re);
-    im = omega (arith, h.im, k.im, imaginary_plus sh a b, nat_abs_add u.im v.im);
+    re = omega (arith, h.re, k.re, ints);
+    im = omega (arith, h.im, k.im, imaginary_plus sh a b, ints);
   }
 
   pub minus_inside : Inside sh (a + b) (minus u v)
   minus_inside = record {
-    re = omega (arith, h.re, k.re, nat_abs_sub u.re v.re);
-    im = omega (arith, h.im, k.im, imaginary_plus sh a b, nat_abs_sub u.im v.im);
+    re = omega (arith, h.re, k.re, ints);
+    im = omega (arith, h.im, k.im, imaginary_plus sh a b, ints);
   }
 
 pub norm_inside : (sh : Shape) (b : ℕ) (u : Gaussian) → Inside sh b u → norm u ≤ 2 * (b * b)

@@ -5,13 +5,14 @@
 --   amount u r s      |u − r·s|², for a target u, a gain r and a point s
 --   Within b u        no part of u is larger than b, whatever its sign
 --   within b u        whether it is so
+--   same u v          whether two points are equal
 --   Shape             the kinds of point: a whole number, or a pair of a real and an imaginary part
 --   project           what a point of a shape keeps of two parts
 --   levels            how many levels a block has
 --   size_limit        how many points an alphabet has at most
 --   parts             how many words a channel or received value takes
 --   value_at sh ws i  the channel or received value whose words begin at place i of ws, a pair as real then imaginary part
-use Rattle.std.specs.Prelude.{ℕ, ◌+◌, ◌*◌, ◌≤◌, Bool, ◌&&◌, List, ℤ, pos, ◌+ℤ◌, ◌-ℤ◌, ◌*ℤ◌, nat_le, slice_index_or, unsigned_abs}
+use Rattle.std.specs.Prelude.{ℕ, ◌+◌, ◌*◌, ◌≤◌, Bool, false, ◌&&◌, List, ℤ, pos, negsuc, ◌==◌, ◌+ℤ◌, ◌-ℤ◌, ◌*ℤ◌, nat_le, slice_index_or, unsigned_abs}
 
 pub record Gaussian : Type 0 where
   pub re : ℤ
@@ -50,6 +51,15 @@ pub record Within (b : ℕ) (u : Gaussian) : Type 0 where
 
 abbrev pub within : ℕ → Gaussian → Bool
 within b u = nat_le (unsigned_abs u.re) b && nat_le (unsigned_abs u.im) b
+
+abbrev pub same_part : ℤ → ℤ → Bool
+same_part (pos a) (pos b) = a == b
+same_part (pos a) (negsuc b) = false
+same_part (negsuc a) (pos b) = false
+same_part (negsuc a) (negsuc b) = a == b
+
+abbrev pub same : Gaussian → Gaussian → Bool
+same s t = same_part s.re t.re && same_part s.im t.im
 
 pub data Shape : Type 0 where
   whole : Shape

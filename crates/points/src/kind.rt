@@ -1,23 +1,34 @@
 // The kind of a point: what targets and amounts need of it.
-ghost use Rattle.std.specs.Prelude.{◌≡◌, ◌+◌, ◌*◌, ◌^◌, ◌<◌, ◌≤◌, length};
-ghost use Rattle.points.specs.Points.{Gaussian, gaussian, minus, times, amount, Within, Shape, project, levels, parts, value_at};
+ghost use Rattle.std.specs.Prelude.{◌≡◌, ℕ, ◌+◌, ◌*◌, ◌^◌, ◌<◌, ◌≤◌, [], ◌∷◌, map, length};
+ghost use Rattle.points.specs.Points.{Gaussian, gaussian, minus, times, amount, Within, Shape, project, levels, parts, size_limit, value_at, same, origin};
 
-pub trait Kind: Copy {
+pub trait Kind: Copy + Eq {
+    ghost shape: { Shape };
+
+    ghost meaning: { Self → Gaussian };
+
+    ghost ORIGIN: { Self };
+
+    ghost LEVELS: { ℕ };
+
+    ghost PARTS: { ℕ };
+
+    ghost MOST_POINTS: { ℕ };
+
+    const ORIGIN: Self;
+
     // how many levels a block of this kind has
     const LEVELS: usize;
 
     // how many words a channel or received value takes
     const PARTS: usize;
 
-    ghost shape: { Shape };
+    // how many points an alphabet of this kind has at most
+    const MOST_POINTS: usize;
 
-    ghost meaning: { Self → Gaussian };
-
-    fn level_count() -> usize
-        ensures { result ≡ levels shape };
-
-    fn part_count() -> usize
-        ensures { result ≡ parts shape };
+    // The list of the origin alone: `&[Self::ORIGIN]` is no constant of the program.
+    fn origin_alone() -> &'static [Self]
+        ensures { map meaning result.now ≡ origin ∷ [] };
 
     // The value with these parts; a whole number takes the first alone.
     fn from_parts(re: i32, im: i32) -> Self
@@ -34,7 +45,8 @@ pub trait Kind: Copy {
     fn imaginary(self) -> i32
         ensures { result ≡ (meaning self).im };
 
-    // u − r·s, for the target u that `self` is.
+    // u − r·s, for the target u that `self` is. Each value's limit is asked here and below and is not in its type,
+    // since a target, an entry and a point are all of this one.
     fn minus_product(self, entry: Self, point: Self) -> Self
         requires target { Within 1048576 (meaning self) }
         requires entry { Within 2048 (meaning entry) }
@@ -54,4 +66,16 @@ pub trait Kind: Copy {
 
     // the meaning leaves nothing out
     ghost faithful: { (p q : Self) → meaning p ≡ meaning q → p ≡ q };
+
+    // `==` tells whether two values are the same
+    ghost tells: { (p q : Self) → Self.eq p q ≡ same (meaning p) (meaning q) };
+
+    ghost at_origin: { meaning ORIGIN ≡ origin };
+
+    // the numbers are those of the shape
+    ghost level_count: { LEVELS ≡ levels shape };
+
+    ghost part_count: { PARTS ≡ parts shape };
+
+    ghost most_points: { MOST_POINTS ≡ size_limit shape };
 }

@@ -1,9 +1,12 @@
 // Pairs as points, complex numbers with whole parts: blocks of four levels.
 ghost use Rattle.points.specs.Points.{gaussian, pair as pair_shape};
-ghost use Rattle.std.proofs.Common.{rules};
+ghost use Rattle.std.specs.Prelude.{pos, Some};
+ghost use Rattle.points.specs.Texts.{pair_text};
+ghost use Rattle.std.proofs.Common.{rules, refl};
 
 use crate::kind::Kind;
 use crate::part::{product, squared_offset};
+use std::fmt;
 
 #[derive(Clone, Copy, PartialEq, Eq, Debug)]
 pub struct Pair {
@@ -12,24 +15,42 @@ pub struct Pair {
 }
 
 impl Kind for Pair {
+    ghost shape = { pair_shape };
+
+    ghost meaning = { λ p. gaussian p.re p.im };
+
+    ghost ORIGIN = { record { re = pos 0; im = pos 0 } };
+
+    ghost LEVELS = { 4 };
+
+    ghost PARTS = { 2 };
+
+    ghost MOST_POINTS = { 256 };
+
+    const ORIGIN: Pair = Pair { re: 0, im: 0 };
+
     const LEVELS: usize = 4;
 
     const PARTS: usize = 2;
 
-    ghost shape = { pair_shape };
-
-    ghost meaning = { λ p. gaussian p.re p.im };
+    const MOST_POINTS: usize = 256;
 
     ghost own = { Prim.search rules };
 
     ghost faithful = { Prim.search rules };
 
-    fn level_count() -> usize {
-        Self::LEVELS
-    }
+    ghost tells = { Prim.search rules };
 
-    fn part_count() -> usize {
-        Self::PARTS
+    ghost at_origin = { refl };
+
+    ghost level_count = { refl };
+
+    ghost part_count = { refl };
+
+    ghost most_points = { refl };
+
+    fn origin_alone() -> &'static [Pair] {
+        &[Pair { re: 0, im: 0 }]
     }
 
     fn from_parts(re: i32, im: i32) -> Pair {
@@ -62,5 +83,19 @@ impl Kind for Pair {
 
     fn amount(self, gain: u32, point: Pair) -> u64 {
         squared_offset(self.re, gain, point.re) + squared_offset(self.im, gain, point.im)
+    }
+}
+
+// As 12-7i. The sign is written here, since what `{im:+}` writes is stated by rules of padding.
+impl fmt::Display for Pair {
+    ghost output = { λ p. Some (pair_text p) };
+
+    fn fmt<W: fmt::Write>(&self, f: &mut fmt::Formatter<W>) -> fmt::Result {
+        let (re, im) = (self.re, self.im);
+        if im < 0 {
+            write!(f, "{re}{im}i")
+        } else {
+            write!(f, "{re}+{im}i")
+        }
     }
 }

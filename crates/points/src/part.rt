@@ -2,7 +2,7 @@
 ghost use Rattle.std.specs.Prelude.{◌≡◌, ◌^◌, ◌<◌, ◌≤◌, pos, ◌-ℤ◌, ◌*ℤ◌, unsigned_abs};
 ghost use Rattle.points.specs.Points.{square};
 
-// The product of a part of an entry and a part of a point.
+// The product of a part of an entry and a part of a point, each within its limit.
 pub fn product(r: i32, s: i32) -> i32
     requires entry { unsigned_abs r ≤ 2048 }
     requires point { unsigned_abs s ≤ 15 }
@@ -20,6 +20,6 @@ pub fn squared_offset(u: i32, r: u32, s: i32) -> u64
     ensures value { result ≡ square (u -ℤ pos r *ℤ s) }
     ensures bound { result < 2 ^ 41 }
 {
-    let offset = (u - product(r as i32, s)).unsigned_abs() as u64;
+    let offset = u64::from((u - product(r as i32, s)).unsigned_abs());
     offset * offset
 }

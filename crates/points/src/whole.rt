@@ -1,6 +1,7 @@
 // Whole numbers as points: blocks of eight levels.
 ghost use Rattle.points.specs.Points.{real as real_point, whole as whole_shape};
-ghost use Rattle.std.proofs.Common.{rules};
+ghost use Rattle.std.specs.Prelude.{pos};
+ghost use Rattle.std.proofs.Common.{rules, refl};
 
 use crate::kind::Kind;
 use crate::part::{product, squared_offset};
@@ -11,24 +12,42 @@ pub struct Whole {
 }
 
 impl Kind for Whole {
+    ghost shape = { whole_shape };
+
+    ghost meaning = { λ p. real_point p.value };
+
+    ghost ORIGIN = { record { value = pos 0 } };
+
+    ghost LEVELS = { 8 };
+
+    ghost PARTS = { 1 };
+
+    ghost MOST_POINTS = { 16 };
+
+    const ORIGIN: Whole = Whole { value: 0 };
+
     const LEVELS: usize = 8;
 
     const PARTS: usize = 1;
 
-    ghost shape = { whole_shape };
-
-    ghost meaning = { λ p. real_point p.value };
+    const MOST_POINTS: usize = 16;
 
     ghost own = { Prim.search rules };
 
     ghost faithful = { Prim.search rules };
 
-    fn level_count() -> usize {
-        Self::LEVELS
-    }
+    ghost tells = { Prim.search rules };
 
-    fn part_count() -> usize {
-        Self::PARTS
+    ghost at_origin = { refl };
+
+    ghost level_count = { refl };
+
+    ghost part_count = { refl };
+
+    ghost most_points = { refl };
+
+    fn origin_alone() -> &'static [Whole] {
+        &[Whole { value: 0 }]
     }
 
     fn from_parts(re: i32, _im: i32) -> Whole {

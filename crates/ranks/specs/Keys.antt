@@ -8,7 +8,7 @@
 --   KeyIndex             a key tells its index
 --   key_at ws i          the key of the index i in a list of amounts
 --   Least ws floor n l   l is the least key, not below the floor, of the indices below n, or no_key where there is none
-use Rattle.std.specs.Prelude.{◌≡◌, ℕ, ◌+◌, ◌*◌, ◌%◌, ◌^◌, ◌<◌, ◌≤◌, cond, ◌&&◌, ◌||◌, ◌⊎◌, List, Some, None, Option, ◌==◌, nat_le, nat_lt, slice_index}
+use Rattle.std.specs.Prelude.{◌≡◌, ℕ, ◌+◌, ◌*◌, ◌%◌, ◌^◌, ◌<◌, ◌≤◌, ◌&&◌, ◌||◌, ◌⊎◌, List, Some, None, Option, if◌then◌else◌, ◌==◌, nat_le, nat_lt, slice_index}
 
 abbrev pub key : ℕ → ℕ → ℕ
 key a i = a * 256 + i
@@ -17,10 +17,10 @@ abbrev pub no_key : ℕ
 no_key = 18446744073709551615
 
 abbrev pub lesser : ℕ → ℕ → ℕ → ℕ
-lesser floor k l = cond (nat_le floor k && nat_lt k l) k l
+lesser floor k l = if nat_le floor k && nat_lt k l then k else l
 
 abbrev pub index_of : ℕ → Option ℕ
-index_of k = cond (k == no_key) None (Some (k % 256))
+index_of k = if k == no_key then None else Some (k % 256)
 
 abbrev pub KeyOrder : Type 0
 KeyOrder = (a b i j : ℕ) → i < 256 → j < 256 → nat_lt (key a i) (key b j) ≡ (nat_lt a b || (a == b && nat_lt i j))

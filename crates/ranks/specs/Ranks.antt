@@ -10,7 +10,7 @@
 --   EachOnce        it holds every index of ws exactly once, and no other number
 --   Ascends         what stands at an earlier place comes before what stands at a later one
 --   Walked          the first stands at its place 0, and what follows an index stands at the next place
-use Rattle.std.specs.Prelude.{◌≡◌, ℕ, zero, suc, ◌+◌, ◌<◌, Bool, true, cond, ◌&&◌, ◌||◌, List, [], ◌∷◌, length, Some, None, Option, ◌==◌, nat_lt, slice_index}
+use Rattle.std.specs.Prelude.{◌≡◌, ℕ, zero, suc, ◌+◌, ◌<◌, Bool, true, ◌&&◌, ◌||◌, List, [], ◌∷◌, length, Some, None, Option, if◌then◌else◌, ◌==◌, nat_lt, slice_index}
 use Rattle.std.specs.List.{range_with_len}
 
 abbrev pub before : List ℕ → ℕ → ℕ → Bool
@@ -19,7 +19,7 @@ before ws i j = nat_lt (slice_index ws i) (slice_index ws j) || (slice_index ws 
 -- k, put in front of the first that it comes before
 abbrev pub inserted : (ℕ → ℕ → Bool) → ℕ → List ℕ → List ℕ
 inserted lt k [] = k ∷ []
-inserted lt k (j ∷ js) = cond (lt k j) (k ∷ j ∷ js) (j ∷ inserted lt k js)
+inserted lt k (j ∷ js) = if lt k j then k ∷ j ∷ js else j ∷ inserted lt k js
 
 abbrev pub sorted : (ℕ → ℕ → Bool) → List ℕ → List ℕ
 sorted lt [] = []
@@ -36,7 +36,7 @@ place (x ∷ xs) (suc k) = place xs k
 
 abbrev pub behind : ℕ → List ℕ → Option ℕ
 behind i [] = None
-behind i (x ∷ xs) = cond (x == i) (place xs 0) (behind i xs)
+behind i (x ∷ xs) = if x == i then place xs 0 else behind i xs
 
 abbrev pub first_in : List ℕ → Option ℕ
 first_in ws = place (ranking ws) 0
@@ -46,10 +46,10 @@ next_in ws i = behind i (ranking ws)
 
 abbrev pub occurrences : ℕ → List ℕ → ℕ
 occurrences i [] = 0
-occurrences i (x ∷ xs) = cond (x == i) 1 0 + occurrences i xs
+occurrences i (x ∷ xs) = (if x == i then 1 else 0) + occurrences i xs
 
 abbrev pub EachOnce : Type 0
-EachOnce = (ws : List ℕ) (i : ℕ) → occurrences i (ranking ws) ≡ cond (nat_lt i (length ws)) 1 0
+EachOnce = (ws : List ℕ) (i : ℕ) → occurrences i (ranking ws) ≡ (if nat_lt i (length ws) then 1 else 0)
 
 abbrev pub Ascends : Type 0
 Ascends = (ws : List ℕ) (a b i j : ℕ) → a < b → place (ranking ws) a ≡ Some i → place (ranking ws) b ≡ Some j → before ws i j ≡ true
