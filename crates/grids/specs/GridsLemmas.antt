@@ -1,5 +1,5 @@
 -- The points of a grid, and that they are those of an alphabet of pairs.
-use Rattle.std.specs.Prelude.{◌≡◌, ℕ, ◌+◌, ◌*◌, ◌/◌, ◌%◌, ◌<◌, List, length, get_or, ℤ, slice_index_or, refl}
+use Rattle.std.specs.Prelude.{◌≡◌, ℕ, ◌+◌, ◌*◌, ◌/◌, ◌%◌, ◌<◌, List, length, ℤ, slice_index_or, refl}
 use Rattle.std.proofs.Common.{sym, ◌∙◌, ap, ap₂, arith}
 use Rattle.std.proofs.lemmas.List.FromFn.{length-map-range_with_len, get_or-map-range_with_len}
 use Rattle.std.proofs.lemmas.Nat.{mul-le, mul-add-lt, div-mul-add, mod-mul-add, div_below, mod_below, div-add-mod'}
@@ -16,7 +16,7 @@ unfolding grid_points
 grid_at ps k h = get_or-map-range_with_len (grid_point ps) 0 (length ps * length ps) k k origin h (omega arith)
 
 -- a whole point is known by its real part
-real_same : (ps : List Gaussian) (i j : ℕ) → Lawful whole ps → i < length ps → j < length ps → (get_or ps i origin).re ≡ (get_or ps j origin).re → i ≡ j
+real_same : (ps : List Gaussian) (i j : ℕ) → Lawful whole ps → i < length ps → j < length ps → (slice_index_or ps i origin).re ≡ (slice_index_or ps j origin).re → i ≡ j
 real_same ps i j l hi hj e =
     let same = sym (l.own i hi) ∙ ap real e ∙ l.own j hj in
     ordered i j (λ h. l.distinct i j h hj same) (λ h. l.distinct j i h hi (sym same))
@@ -59,8 +59,8 @@ grid_size ps n e = rw e (sym (grid_length ps))
 
 pub grid_held : (ps : List Gaussian) (n k : ℕ) (a b : ℤ) → n ≡ length ps → k < n * n → real a ≡ slice_index_or ps (k / n) origin → real b ≡ slice_index_or ps (k % n) origin → gaussian a b ≡ slice_index_or (grid_points ps) k origin
 grid_held ps n k a b e h p q =
-    let row : real a ≡ get_or ps (k / length ps) origin = rw e at p in
-    let column : real b ≡ get_or ps (k % length ps) origin = rw e at q in
+    let row : real a ≡ slice_index_or ps (k / length ps) origin = rw e at p in
+    let column : real b ≡ slice_index_or ps (k % length ps) origin = rw e at q in
     rw (grid_at ps k (rw e at h), ← row, ← column) refl
 
 -- the quotient of i·L + j by L is i, and the remainder is j
@@ -68,4 +68,4 @@ pub grid_order : GridOrder
 grid_order ps i j hi hj =
     let n = length ps in
     let k = i * n + j in
-    grid_at ps k (mul-add-lt i n j n hi hj) ∙ ap₂ (λ (q r : ℕ). gaussian (get_or ps q origin).re (get_or ps r origin).re) (div-mul-add i n j hj) (mod-mul-add i n j hj)
+    grid_at ps k (mul-add-lt i n j n hi hj) ∙ ap₂ (λ (q r : ℕ). gaussian (slice_index_or ps q origin).re (slice_index_or ps r origin).re) (div-mul-add i n j hj) (mod-mul-add i n j hj)

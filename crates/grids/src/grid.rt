@@ -5,7 +5,7 @@ ghost use Rattle.grids.specs.GridsLemmas.{grid_lawful};
 
 use crate::weigh::{next_sum, weigh};
 use alphabets::alphabet::{Alphabet, point_or_origin};
-use alphabets::question::{Ranked, ask};
+use alphabets::question::{Question, Ranked};
 use faults::alphabet::AlphabetFault;
 use points::kind::Kind;
 use points::pair::Pair;
@@ -17,6 +17,7 @@ pub struct Grid<P> {
 }
 
 impl<P> Grid<P> {
+    #[tactic(auto, using(crate::specs::GridsLemmas::grid_order))]
     pub fn new(side: P) -> Grid<P>
         ensures side { result.side ≡ side }
         ensures order { GridOrder }
@@ -25,6 +26,7 @@ impl<P> Grid<P> {
     }
 }
 
+#[tactic(auto, using(crate::specs::GridsLemmas::grid_size))]
 impl<P: Alphabet<Point = Whole>> Alphabet for Grid<P> {
     type Point = Pair;
 
@@ -51,6 +53,7 @@ impl<P: Alphabet<Point = Whole>> Alphabet for Grid<P> {
     }
 }
 
+#[tactic(auto, using(crate::specs::GridsLemmas::grid_size))]
 impl<P: Ranked<Point = Whole>> Ranked for Grid<P> {
     fn first(&self, target: Pair, gain: u32) -> Result<usize, AlphabetFault> {
         let re = self.side.first(Whole { value: target.re }, gain)?;
@@ -59,12 +62,24 @@ impl<P: Ranked<Point = Whole>> Ranked for Grid<P> {
     }
 
     fn next(&self, target: Pair, gain: u32, index: usize) -> Result<Option<usize>, AlphabetFault> {
-        ask(target, gain)?;
+        let Question { target, gain } = Question::new(target, gain)?;
         let side = self.side.size();
         if side * side <= index {
             return Err(AlphabetFault::Index);
         }
-        let (re, im) = weigh(&self.side, target, gain);
-        Ok(next_sum(&re[..side], &im[..side], index))
+        let re = Question {
+            target: Whole { value: target.re },
+            gain,
+        };
+        let im = Question {
+            target: Whole { value: target.im },
+            gain,
+        };
+        // Arrays in place: by an `ArrayVec` for each side a question at 4 points takes 404 instructions, by these 200; C takes 172.
+        let mut rows = [0; 16];
+        weigh(&self.side, &re, &mut rows[..side]);
+        let mut columns = [0; 16];
+        weigh(&self.side, &im, &mut columns[..side]);
+        Ok(next_sum(&rows[..side], &columns[..side], index))
     }
 }

@@ -1,38 +1,24 @@
 // The points of a grid weighed by their parts: an amount is the sum of one for each side.
-ghost use Rattle.std.specs.Prelude.{◌≡◌, ℕ, ◌+◌, ◌*◌, ◌^◌, ◌<◌, ◌≤◌, List, length, take, slice_index, unsigned_abs};
+ghost use Rattle.std.specs.Prelude.{◌≡◌, ℕ, ◌+◌, ◌*◌, ◌^◌, ◌<◌, ◌≤◌, List, length, slice_index};
 ghost use Rattle.points.specs.Points.{real};
 ghost use Rattle.ranks.specs.Ranks.{next_in};
 ghost use Rattle.ranks.specs.Keys.{Least};
-ghost use Rattle.alphabets.specs.Questions.{amounts};
+ghost use Rattle.alphabets.specs.Questions.{amounts as amounts_of};
 ghost use Rattle.grids.specs.Grids.{sums, Sides};
 
 use alphabets::alphabet::{Alphabet, point_or_origin};
-use points::kind::Kind;
-use points::pair::Pair;
+use alphabets::question::Question;
 use points::whole::Whole;
 use ranks::key::{NO_KEY, index_of, lesser, rank_key};
 
-// The amounts of a side's points, of which there are at most 16, around the target's real and its imaginary part.
-pub fn weigh<P: Alphabet<Point = Whole>>(
-    side: &P,
-    target: Pair,
-    gain: u32,
-) -> ([u64; 16], [u64; 16])
-    requires re { unsigned_abs target.re ≤ 1048576 }
-    requires im { unsigned_abs target.im ≤ 1048576 }
-    requires gain { gain ≤ 2047 }
-    ensures places { (length result.0 ≡ 16) × (length result.1 ≡ 16) }
-    ensures re { take (length (P.Alphabet.points side.now)) result.0 ≡ amounts (P.Alphabet.points side.now) (real target.re) gain }
-    ensures im { take (length (P.Alphabet.points side.now)) result.1 ≡ amounts (P.Alphabet.points side.now) (real target.im) gain }
+// Writes the amount of each of a side's points.
+pub fn weigh<P: Alphabet<Point = Whole>>(side: &P, question: &Question<Whole>, amounts: &mut [u64])
+    requires { length amounts.old ≡ length (P.Alphabet.points side.now) }
+    ensures { amounts.new ≡ amounts_of (P.Alphabet.points side.now) (real question.now.target.value) question.now.gain }
 {
-    let mut re = [0; 16];
-    let mut im = [0; 16];
-    for index in 0..side.size() {
-        let point = point_or_origin(side, index);
-        re[index] = Whole { value: target.re }.amount(gain, point);
-        im[index] = Whole { value: target.im }.amount(gain, point);
+    for (index, amount) in amounts.iter_mut().enumerate() {
+        *amount = question.amount(point_or_origin(side, index));
     }
-    (re, im)
 }
 
 // The index that follows in rank among the sums.

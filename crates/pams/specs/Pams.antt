@@ -4,7 +4,7 @@
 --   size_answer    the size that a number names, or its refusal
 --   pam_points n   the n points; the one at index i is 2i − (n − 1)
 --   FourRanks      how a PAM of size 4 ranks its points: at the target 0 and the gain 10, at 20 and 10, and at 7 and 0
-use Rattle.std.specs.Prelude.{◌≡◌, ℕ, ◌-◌, ◌*◌, cond, List, [], ◌∷◌, map, pos, ◌-ℤ◌, Ok, Err, Result, ◌==◌}
+use Rattle.std.specs.Prelude.{◌≡◌, ℕ, ◌-◌, ◌*◌, List, [], ◌∷◌, map, pos, ◌-ℤ◌, Ok, Err, Result, if◌then◌else◌, ◌==◌}
 use Rattle.std.specs.List.{range_with_len}
 use Rattle.faults.specs.declared.alphabet.AlphabetFault.{AlphabetFault}
 use Rattle.faults.specs.declared.alphabet.AlphabetFault.TheVariants as fault
@@ -22,11 +22,11 @@ pam_size Sixteen = 16
 
 abbrev pub size_answer : ℕ → Result PamSize AlphabetFault
 size_answer n =
-    cond (n == 2) (Ok Two)
-    (cond (n == 4) (Ok Four)
-    (cond (n == 8) (Ok Eight)
-    (cond (n == 16) (Ok Sixteen)
-    (Err fault.PamSize))))
+    if n == 2 then Ok Two else
+    if n == 4 then Ok Four else
+    if n == 8 then Ok Eight else
+    if n == 16 then Ok Sixteen else
+    Err fault.PamSize
 
 abbrev pub pam_point : ℕ → ℕ → Gaussian
 pam_point n i = real (pos (2 * i) -ℤ pos (n - 1))

@@ -5,12 +5,12 @@ ghost use Rattle.pams.specs.PamsLemmas.{sized, pam_lawful};
 
 use crate::steps::{first_step, half_steps, next_step};
 use alphabets::alphabet::Alphabet;
-use alphabets::question::{Ranked, ask};
+use alphabets::question::{Question, Ranked};
 use faults::alphabet::AlphabetFault;
 use points::kind::Kind;
 use points::whole::Whole;
 
-// The sizes that a PAM may have: `PamSize::new` refuses every other number.
+// The sizes that a PAM may have: `PamSize::try_from` refuses every other number.
 #[derive(Clone, Copy, PartialEq, Eq, Debug)]
 pub enum PamSize {
     Two = 2,
@@ -19,10 +19,12 @@ pub enum PamSize {
     Sixteen = 16,
 }
 
-impl PamSize {
-    pub fn new(size: usize) -> Result<PamSize, AlphabetFault>
-        ensures { result ≡ size_answer size }
-    {
+impl TryFrom<usize> for PamSize {
+    type Error = AlphabetFault;
+
+    ghost try_from_gives = { λ size r. r ≡ size_answer size };
+
+    fn try_from(size: usize) -> Result<PamSize, AlphabetFault> {
         match size {
             2 => Ok(PamSize::Two),
             4 => Ok(PamSize::Four),
@@ -31,12 +33,14 @@ impl PamSize {
             _ => Err(AlphabetFault::PamSize),
         }
     }
+}
 
-    // How many points a PAM of this size has.
-    pub fn count(self) -> usize
-        ensures { result ≡ pam_size self }
-    {
-        self as usize
+// How many points a PAM of this size has.
+impl From<PamSize> for usize {
+    ghost from_gives = { λ size count. count ≡ pam_size size };
+
+    fn from(size: PamSize) -> usize {
+        size as usize
     }
 }
 
@@ -54,6 +58,7 @@ impl Pam {
     }
 }
 
+#[tactic(auto, using(crate::specs::PamsLemmas::pam_length))]
 impl Alphabet for Pam {
     type Point = Whole;
 
@@ -62,11 +67,11 @@ impl Alphabet for Pam {
     ghost lawful = { λ p. pam_lawful (pam_size p.size) (sized p.size) };
 
     fn size(&self) -> usize {
-        self.size.count()
+        usize::from(self.size)
     }
 
     fn point(&self, index: usize) -> Result<Whole, AlphabetFault> {
-        let size = self.size.count();
+        let size = usize::from(self.size);
         if index < size {
             Ok(Whole {
                 value: 2 * index as i32 - (size as i32 - 1),
@@ -77,19 +82,20 @@ impl Alphabet for Pam {
     }
 }
 
+#[tactic(auto, using(crate::specs::PamsLemmas::pam_length))]
 impl Ranked for Pam {
     fn first(&self, target: Whole, gain: u32) -> Result<usize, AlphabetFault> {
-        ask(target, gain)?;
-        let size = self.size.count();
-        Ok(first_step(half_steps(size, target.value, gain), size))
+        let question = Question::new(target, gain)?;
+        let size = usize::from(self.size);
+        Ok(first_step(half_steps(size, &question), size))
     }
 
     fn next(&self, target: Whole, gain: u32, index: usize) -> Result<Option<usize>, AlphabetFault> {
-        ask(target, gain)?;
-        let size = self.size.count();
+        let question = Question::new(target, gain)?;
+        let size = usize::from(self.size);
         if index >= size {
             return Err(AlphabetFault::Index);
         }
-        Ok(next_step(half_steps(size, target.value, gain), size, index))
+        Ok(next_step(half_steps(size, &question), size, index))
     }
 }

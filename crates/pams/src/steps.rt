@@ -1,22 +1,24 @@
 // Rank among equally spaced points, by where the target stands: in half steps above the first point, rounded up.
-ghost use Rattle.std.specs.Prelude.{◌≡◌, ℕ, ◌<◌, ◌≤◌, List, length, Some, unsigned_abs};
+ghost use Rattle.std.specs.Prelude.{◌≡◌, ℕ, ◌<◌, ◌≤◌, List, length, Some};
 ghost use Rattle.points.specs.Points.{real};
 ghost use Rattle.ranks.specs.Ranks.{first_in, next_in};
 ghost use Rattle.alphabets.specs.Questions.{amounts};
 ghost use Rattle.pams.specs.Pams.{pam_points};
 ghost use Rattle.pams.specs.Steps.{HalfSteps};
 
-// Neighbours are two gains apart. At a gain of 0 all points are equally near, as if the target stood at the first.
-pub fn half_steps(size: usize, target: i32, gain: u32) -> usize
+use alphabets::question::Question;
+use points::whole::Whole;
+
+// How many points there are is a number here and below, which the steps divide and compare. Neighbours are two gains apart. At a gain of 0 all points are equally near, as if the target stood at the first.
+pub fn half_steps(size: usize, question: &Question<Whole>) -> usize
     requires some { 0 < size }
     requires few { size ≤ 16 }
-    requires target { unsigned_abs target ≤ 1048576 }
-    requires gain { gain ≤ 2047 }
-    ensures value { HalfSteps (amounts (pam_points size) (real target) gain) result }
+    ensures value { HalfSteps (amounts (pam_points size) (real question.now.target.value) question.now.gain) result }
     ensures bound { result < 4294967296 }
 {
+    let gain = question.gain;
     let to_middle = (size as u32 - 1) * gain;
-    let above_first = target + to_middle as i32;
+    let above_first = question.target.value + to_middle as i32;
     if gain == 0 || above_first <= 0 {
         return 0;
     }

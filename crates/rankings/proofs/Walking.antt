@@ -1,6 +1,6 @@
--- Who begins at the first and asks for the next fills the array with the ranking.
-use Rattle.std.proofs.Common.{◌≡◌, ℕ, ◌+◌, ◌<◌, ◌≤◌, true, List, length, get_or, take, set, Some, None, Ok, Err, Option, sym, ap, ◌∙◌, arith}
-use Rattle.std.proofs.lemmas.List.{length-set, take_all, take-set, take_more_same, get_or-set_same}
+-- Who begins at the first and asks for the next has the whole ranking.
+use Rattle.std.proofs.Common.{◌≡◌, ℕ, ◌-◌, ◌<◌, true, List, [], ◌∷◌, ◌++◌, length, get_or, take, Some, None, Ok, Err, Option, sym, ap, refl, ◌∙◌, arith}
+use Rattle.std.proofs.lemmas.List.{take_all, take_more, length_push}
 use Rattle.faults.specs.declared.alphabet.AlphabetFault.{AlphabetFault}
 use Rattle.faults.specs.Refusals.{answer}
 use Rattle.points.specs.Points.{Gaussian, Shape}
@@ -9,42 +9,51 @@ use Rattle.ranks.proofs.Sorting.{place_within, place_past}
 use Rattle.ranks.proofs.Ranks.{walks, placed_in, ranking_length}
 use Rattle.alphabets.specs.Alphabets.{Lawful}
 use Rattle.alphabets.specs.Questions.{askable, rank_fault, amounts, first_answer, next_answer}
-use Rattle.alphabets.proofs.Ranked.{amounts_length, amounts_keyed, asked, next_told}
+use Rattle.alphabets.proofs.Ranked.{amounts_length, limit_256, first_told, next_told, next_never}
 
-module _ (sh : Shape) (pts : List Gaussian) (u : Gaussian) (r : ℕ) (l : Lawful sh pts) (ask : askable u r ≡ true) where
-  few : length (amounts pts u r) ≤ 256
-  few = (amounts_keyed sh pts u r l (asked u r ask)).few
+-- ks is the front of the ranking, and next is what stands behind it
+pub record Front (pts : List Gaussian) (u : Gaussian) (r : ℕ) (ks : List ℕ) (next : Option ℕ) : Type 0 where
+  pub asked : askable u r ≡ true
+  pub so_far : ks ≡ take (length ks) (ranking (amounts pts u r))
+  pub after : next ≡ place (ranking (amounts pts u r)) (length ks)
 
-  module _ (indices : List ℕ) (count i : ℕ) (next : Option ℕ) (size : length indices ≡ 256) (so_far : take count indices ≡ take count (ranking (amounts pts u r))) (is : next ≡ place (ranking (amounts pts u r)) count) (found : next ≡ Some i) where
-    here : (count < length (ranking (amounts pts u r))) × (get_or (ranking (amounts pts u r)) count 0 ≡ i)
-    here = place_within (ranking (amounts pts u r)) count i (sym is ∙ found)
+module _ {sh : Shape} {pts : List Gaussian} {u : Gaussian} {r : ℕ} (l : Lawful sh pts) where
+  pub begins : {k : ℕ} → Ok k ≡ first_answer pts u r → Front pts u r [] (Some k)
+  begins {k} e = let t = first_told pts u r k l.some e in record { asked = t.0; so_far = refl; after = sym t.1 }
 
-    pub count_in : count < 256
-    count_in = omega (arith, here.0, ranking_length (amounts pts u r), few)
+  module _ {ks : List ℕ} {next : Option ℕ} {i : ℕ} (f : Front pts u r ks next) (found : next ≡ Some i) where
+    stands : place (ranking (amounts pts u r)) (length ks) ≡ Some i
+    stands = sym f.after ∙ found
 
-    pub index_in : i < length pts
-    index_in = omega (arith, placed_in (amounts pts u r) count i (sym is ∙ found), amounts_length pts u r)
+    here : (length ks < length (ranking (amounts pts u r))) × (get_or (ranking (amounts pts u r)) (length ks) 0 ≡ i)
+    here = place_within (ranking (amounts pts u r)) (length ks) i stands
 
-    pub count_less : count < length pts
-    count_less = omega (arith, here.0, ranking_length (amounts pts u r), amounts_length pts u r)
+    below : length ks < length pts
+    below = omega (arith, here.0, ranking_length (amounts pts u r), amounts_length pts u r)
 
-    pub one_more : take (count + 1) (set indices count i) ≡ take (count + 1) (ranking (amounts pts u r))
-    one_more =
-        let within : count < length indices = omega (arith, count_in, size) in
-        take_more_same (set indices count i) (ranking (amounts pts u r)) count 0 (rw (length-set indices count i) within) here.0 (take-set indices count i ∙ so_far) (get_or-set_same indices count i 0 within ∙ sym here.1)
+    index_in : i < length pts
+    index_in = omega (arith, placed_in (amounts pts u r) (length ks) i stands, amounts_length pts u r)
 
-    pub goes_on : (k : Option ℕ) → Ok k ≡ next_answer pts u r i → k ≡ place (ranking (amounts pts u r)) (count + 1)
-    goes_on k e = next_told pts u r i k ask index_in e ∙ (walks (amounts pts u r)).1 count i (sym is ∙ found)
+    pub room : length ks < 256
+    room = omega (arith, below, l.few, limit_256 sh)
 
-  pub at_end : (indices : List ℕ) (count : ℕ) → take count indices ≡ take count (ranking (amounts pts u r)) → None ≡ place (ranking (amounts pts u r)) count → take count indices ≡ ranking (amounts pts u r)
-  at_end indices count so_far is =
-      so_far ∙ take_all count (ranking (amounts pts u r)) (place_past (ranking (amounts pts u r)) count (sym is))
+    pub shorter : (new : List ℕ) → new ≡ ks ++ i ∷ [] → length pts - length new < length pts - length ks
+    shorter new e = rw (e, length_push ks i) (omega (arith, below))
 
--- ---- the whole answer
+    pub never : (fault : AlphabetFault) → Err fault ≡ next_answer pts u r i → ⊥
+    never fault e = next_never pts u r i fault f.asked index_in e
 
-module _ (pts : List Gaussian) (u : Gaussian) (r : ℕ) where
-  pub refused : (f : AlphabetFault) → Err f ≡ first_answer pts u r → Err f ≡ answer (rank_fault u r) (ranking (amounts pts u r))
-  refused f e = grind arith
+    pub one_more : (new : List ℕ) (k : Option ℕ) → new ≡ ks ++ i ∷ [] → Ok k ≡ next_answer pts u r i → Front pts u r new k
+    one_more new k e told =
+        let rk = ranking (amounts pts u r) in
+        rw e (record {
+          asked = f.asked;
+          so_far = rw length_push (cc (f.so_far, here.1, take_more rk (length ks) 0 here.0));
+          after = rw length_push (next_told pts u r i k f.asked index_in told ∙ walks (amounts pts u r) (length ks) i stands);
+        })
 
-  pub accepted : (ks : List ℕ) → askable u r ≡ true → ks ≡ ranking (amounts pts u r) → Ok ks ≡ answer (rank_fault u r) (ranking (amounts pts u r))
-  accepted ks a e = rw a (ap Ok e)
+-- the whole answer
+pub at_end : {pts : List Gaussian} {u : Gaussian} {r : ℕ} {ks : List ℕ} {next : Option ℕ} → Front pts u r ks next → next ≡ None → Ok ks ≡ answer (rank_fault u r) (ranking (amounts pts u r))
+at_end {pts} {u} {r} {ks} f none =
+    let rk = ranking (amounts pts u r) in
+    rw f.asked (ap Ok (f.so_far ∙ take_all (length ks) rk (place_past rk (length ks) (sym f.after ∙ none))))

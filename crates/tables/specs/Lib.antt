@@ -1,5 +1,1 @@
 pub mod Tables
-pub mod TablesLemmas
-pub mod Checks
-pub mod Same
-pub mod Listed

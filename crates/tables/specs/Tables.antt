@@ -1,15 +1,10 @@
 -- A table: a list of points that a caller holds, and what is looked at before it is taken.
 --
---   same s t               whether two points are equal
 --   among s pts            whether s is one of the points
 --   point_fault pts i      what is wrong with the point at index i: a part outside −15 to 15, or an equal point at a smaller index
 --   points_fault pts n i   the first of these at the n indices from i on
 --   size_fault sh pts      no point, or more than the shape sh allows
 --   table_fault sh pts     the refusal of a list: of its size, or else the first of its points'
---   passes sh pts          whether there is none
---   table_points sh pts    the points of a table over the list pts: these, if they pass, and else the origin alone
---   whole_points           what a list of whole numbers stands for
---   pair_points            what a list of pairs stands for
 --
 -- What makes that the check of an alphabet, whatever the order in which it looks:
 --
@@ -17,28 +12,16 @@
 --   Fine pts i            no part of the point at index i is too large, and no point at a smaller index equals it
 --   Refusal sh pts f      what the fault f says of a list: all that is looked at before is as it must be, and this is not
 --   TellsFirst            a list is refused with the first fault: what it says holds
---   KeepsPoints           a table over a list that passes has the list's points
-use Rattle.std.specs.Prelude.{◌≡◌, ℕ, zero, suc, ◌+◌, ◌<◌, ◌≤◌, Bool, true, false, cond, not, ◌&&◌, ◌||◌, ◌⊎◌, List, [], ◌∷◌, map, length, take, ℤ, pos, negsuc, is_some, Some, None, Option, ◌==◌, ◌≢◌, nat_lt, slice_index_or}
+use Rattle.std.specs.Prelude.{◌≡◌, ℕ, zero, suc, ◌+◌, ◌<◌, ◌≤◌, Bool, not, ◌||◌, ◌⊎◌, List, [], ◌∷◌, length, take, Some, None, Option, ◌==◌, ◌≢◌, nat_lt, slice_index_or}
+use Rattle.std.specs.List.{list_any}
 use Rattle.faults.specs.declared.alphabet.AlphabetFault.{AlphabetFault}
 use Rattle.faults.specs.declared.alphabet.AlphabetFault.TheVariants as fault
 use Rattle.faults.specs.Refusals.{when, or_else, first_of}
-use Rattle.points.specs.Points.{Gaussian, gaussian, real, origin, Within, within, Shape, project, size_limit}
-use Rattle.points.specs.declared.pair.Pair.{Pair}
-use Rattle.points.specs.declared.whole.Whole.{Whole}
+use Rattle.points.specs.Points.{Gaussian, origin, same, Within, within, Shape, project, size_limit}
 use Rattle.alphabets.specs.Alphabets.{Lawful}
 
-abbrev pub same_part : ℤ → ℤ → Bool
-same_part (pos a) (pos b) = a == b
-same_part (pos a) (negsuc b) = false
-same_part (negsuc a) (pos b) = false
-same_part (negsuc a) (negsuc b) = a == b
-
-abbrev pub same : Gaussian → Gaussian → Bool
-same s t = same_part s.re t.re && same_part s.im t.im
-
 abbrev pub among : Gaussian → List Gaussian → Bool
-among s [] = false
-among s (t ∷ ts) = same t s || among s ts
+among s pts = list_any (λ t. same t s) pts
 
 abbrev pub point_fault : List Gaussian → ℕ → Option AlphabetFault
 point_fault pts i =
@@ -56,18 +39,6 @@ size_fault sh pts = when (length pts == 0 || nat_lt (size_limit sh) (length pts)
 
 unfoldable pub table_fault : Shape → List Gaussian → Option AlphabetFault
 table_fault sh pts = first_of (size_fault sh pts ∷ points_fault pts (length pts) 0 ∷ [])
-
-abbrev pub passes : Shape → List Gaussian → Bool
-passes sh pts = not (is_some (table_fault sh pts))
-
-unfoldable pub table_points : Shape → List Gaussian → List Gaussian
-table_points sh pts = cond (passes sh pts) pts (origin ∷ [])
-
-abbrev pub whole_points : List Whole → List Gaussian
-whole_points ps = map (λ (p : Whole). real p.value) ps
-
-abbrev pub pair_points : List Pair → List Gaussian
-pair_points ps = map (λ (p : Pair). gaussian p.re p.im) ps
 
 abbrev pub AcceptsLawful : Type 0
 AcceptsLawful = (sh : Shape) (pts : List Gaussian) → ((i : ℕ) → i < length pts → project sh (slice_index_or pts i origin) ≡ slice_index_or pts i origin) → (table_fault sh pts ≡ None → Lawful sh pts) × (Lawful sh pts → table_fault sh pts ≡ None)
@@ -92,6 +63,3 @@ Refusal sh pts fault.Index = ⊥
 
 abbrev pub TellsFirst : Type 0
 TellsFirst = (sh : Shape) (pts : List Gaussian) (f : AlphabetFault) → table_fault sh pts ≡ Some f → Refusal sh pts f
-
-abbrev pub KeepsPoints : Type 0
-KeepsPoints = (sh : Shape) (pts : List Gaussian) → passes sh pts ≡ true → table_points sh pts ≡ pts

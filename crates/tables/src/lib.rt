@@ -3,5 +3,4 @@
 
 pub mod check;
 mod least;
-pub mod list;
 pub mod table;

@@ -2,14 +2,9 @@ use Rattle.std.proofs.Common.{arith, w32, SFits, rules}
 use Rattle.std.proofs.lemmas.Int.{to_z-of_z}
 use Rattle.points.specs.Points.{gaussian}
 use Rattle.grids.specs.Grids.{grid_points}
-use Rattle.alphabets.proofs.Asked.{told, refused}
+use Rattle.alphabets.proofs.Asked.{told}
 use Rattle.grids.specs.GridsLemmas.{grid_size, grid_held}
 use Rattle.grids.proofs.grid.GridAlphabet.point.Goals as goal
-
-pub returns-then-index-side : goal.returns-then-index-side
-returns-then-index-side g c =
-    let ps = g.P.Alphabet.points c.args.self.now.side in
-    refused (grid_points ps) c.args.index (omega (arith, grid_size ps c.size-side.result c.size-side.ensures))
 
 pub returns : goal.returns
 returns g c =

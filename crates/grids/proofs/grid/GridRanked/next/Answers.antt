@@ -1,47 +1,27 @@
-use Rattle.std.proofs.Common.{arith}
-use Rattle.points.specs.Points.{gaussian}
-use Rattle.alphabets.proofs.Ranked.{accepted, past_next}
-use Rattle.grids.specs.Grids.{grid_points}
-use Rattle.grids.specs.GridsLemmas.{grid_size}
-use Rattle.grids.proofs.Weighing.{row_count, column_count, sums_small, next_answered}
+use Rattle.std.proofs.Common.{◌≡◌, None, rules}
+use Rattle.points.specs.Points.{gaussian, real}
+use Rattle.alphabets.specs.Questions.{rank_fault, amounts}
+use Rattle.grids.proofs.Weighing.{in_front, sides, next_answered}
 use Rattle.grids.proofs.grid.GridRanked.next.Goals as goal
 
-pub returns-then-side-index : goal.returns-then-side-index
-returns-then-side-index g c =
+pub next_sum-requires-clause-sides : goal.next_sum-requires-clause-sides
+next_sum-requires-clause-sides g c =
+    let u = gaussian c.args.target.re c.args.target.im in
     let ps = g.P.Alphabet.points c.args.self.now.side in
-    let u = gaussian c.args.target.re c.args.target.im in
-    let ask = accepted u c.args.gain c.in_ok-ask.field-0 c.in_ok-ask.ensures in
-    past_next (grid_points ps) u c.args.gain c.args.index ask (omega (arith, c.if-side-index.true, grid_size ps c.size-side.result c.size-side.ensures))
-
-pub next_sum-requires : goal.next_sum-requires
-next_sum-requires g c =
-    let side = c.args.self.now.side in
-    let ps = g.P.Alphabet.points side in
-    let u = gaussian c.args.target.re c.args.target.im in
-    let n = c.size-side.result in
-    let ws = c.weigh.result.0 in
-    let vs = c.weigh.result.1 in
-    let l = g.met.P.Alphabet.lawful side in
-    let ask = accepted u c.args.gain c.in_ok-ask.field-0 c.in_ok-ask.ensures in
-    let p = c.weigh.ensures.re in
-    let q = c.weigh.ensures.im in
-    let rows = row_count ps u c.args.gain n ws vs l c.size-side.ensures ask p q in
-    let columns = column_count ps u c.args.gain n ws vs l c.size-side.ensures ask p q in
-    record {
-      sides = record {
-        rows = omega (arith, rows, c.size-side.ensures, l.few);
-        columns = omega (arith, columns, c.size-side.ensures, l.few);
-        small = sums_small ps u c.args.gain n ws vs l c.size-side.ensures ask p q;
-      };
-      index = rw (rows, columns) c.if-side-index.false;
-    }
+    let left : rank_fault u c.args.gain ≡ None = search rules in
+    let rows : c.weigh.new.amounts ≡ amounts ps (real u.re) c.args.gain = search rules in
+    let columns : c.weigh-2.new.amounts ≡ amounts ps (real u.im) c.args.gain = search rules in
+    let re = in_front ps u.re c.args.gain _ _ c.size-side.result rows c.size-side.ensures in
+    let im = in_front ps u.im c.args.gain _ _ c.size-side.result columns c.size-side.ensures in
+    sides u c.args.gain _ _ (g.met.P.Alphabet.lawful c.args.self.now.side) left re im
 
 pub returns : goal.returns
 returns g c =
-    let side = c.args.self.now.side in
-    let ps = g.P.Alphabet.points side in
     let u = gaussian c.args.target.re c.args.target.im in
-    let ask = accepted u c.args.gain c.in_ok-ask.field-0 c.in_ok-ask.ensures in
-    let p = c.weigh.ensures.re in
-    let q = c.weigh.ensures.im in
-    next_answered ps u c.args.gain c.size-side.result c.weigh.result.0 c.weigh.result.1 (g.met.P.Alphabet.lawful side) c.size-side.ensures ask p q c.args.index c.next_sum.result c.if-side-index.false c.next_sum.ensures
+    let ps = g.P.Alphabet.points c.args.self.now.side in
+    let left : rank_fault u c.args.gain ≡ None = search rules in
+    let rows : c.weigh.new.amounts ≡ amounts ps (real u.re) c.args.gain = search rules in
+    let columns : c.weigh-2.new.amounts ≡ amounts ps (real u.im) c.args.gain = search rules in
+    let re = in_front ps u.re c.args.gain _ _ c.size-side.result rows c.size-side.ensures in
+    let im = in_front ps u.im c.args.gain _ _ c.size-side.result columns c.size-side.ensures in
+    next_answered u c.args.gain _ _ (g.met.P.Alphabet.lawful c.args.self.now.side) left re im c.args.index c.size-side.ensures c.if-side-index.false c.next_sum.ensures

@@ -3,6 +3,6 @@ use Rattle.ranks.specs.Ranks.{ranking}
 use Rattle.pams.specs.Pams.{pam_points}
 use Rattle.pams.proofs.pam.Pam.new.Goals as goal
 
-pub returns : goal.returns
+pub returns-clause-ranks : goal.returns-clause-ranks
 unfolding ranking pam_points
-returns c = record { size = refl; ranks = (refl, refl, refl) }
+returns-clause-ranks c = (refl, refl, refl)

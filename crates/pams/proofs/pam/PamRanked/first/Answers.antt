@@ -1,18 +1,6 @@
-use Rattle.std.proofs.Common.{w32, SFits, rules}
-use Rattle.std.proofs.lemmas.Int.{to_z-of_z}
-use Rattle.points.specs.Points.{real}
-use Rattle.alphabets.specs.Questions.{amounts}
-use Rattle.alphabets.proofs.Ranked.{accepted, told_first}
-use Rattle.pams.specs.Pams.{pam_size, pam_points}
-use Rattle.pams.proofs.Stepping.{told_steps}
+use Rattle.std.proofs.Common.{rules}
+use Rattle.pams.proofs.Stepping.{first_answered}
 use Rattle.pams.proofs.pam.PamRanked.first.Goals as goal
 
 pub returns : goal.returns
-returns c =
-    let n = pam_size c.args.self.now.size in
-    let u = real c.args.target.value in
-    let r = c.args.gain in
-    let f : SFits w32 c.args.target.value = search rules in
-    let h = told_steps n c.count-size.result c.args.target.value r c.half_steps.result c.count-size.ensures (simp to_z-of_z at c.half_steps.ensures.value) in
-    let asked = accepted u r c.in_ok-ask.field-0 c.in_ok-ask.ensures in
-    told_first (pam_points n) u r c.first_step.result asked (c.first_step.ensures (amounts (pam_points n) u r) h.0 h.1)
+returns c = first_answered c.args.target.value c.args.gain c.half_steps.result c.from-size.ensures (search rules) (search rules) c.first_step.result c.first_step.ensures

@@ -1,19 +1,12 @@
-use Rattle.alphabets.proofs.Ranked.{accepted}
-use Rattle.tables.specs.TablesLemmas.{passed_lawful, table_first}
+use Rattle.std.proofs.Common.{sym}
+use Rattle.std.proofs.lemmas.List.{length-map}
+use Rattle.tables.proofs.TablesLemmas.{table_first}
 use Rattle.tables.proofs.table.TableRanked.first.Goals as goal
-
-pub least_from-least-requires : goal.least_from-least-requires
-least_from-least-requires g c =
-    let m = g.L.Point.Kind.meaning in
-    record {
-      lawful = passed_lawful g.L.Point.Kind.shape m g.met.L.Point.Kind.own c.as_slice.result.now c.as_slice.ensures.kept;
-      asked = accepted (m c.args.target) c.args.gain c.in_ok-ask.field-0 c.in_ok-ask.ensures;
-    }
 
 pub returns : goal.returns
 returns g c =
-    let m = g.L.Point.Kind.meaning in
-    let u = m c.args.target in
-    let list = c.as_slice.ensures in
-    let ask = accepted u c.args.gain c.in_ok-ask.field-0 c.in_ok-ask.ensures in
-    table_first g.L.Point.Kind.shape m c.as_slice.result.now (g.L.PointList.held c.args.self.now.list) list.list list.kept g.met.L.Point.Kind.own u c.args.gain ask c.least_from-least.result c.unwrap_or.result c.index_of.result c.least_from-least.ensures c.index_of.ensures.value c.unwrap_or.ensures
+    let m = g.K.Kind.meaning in
+    let t = c.args.self.now in
+    let q = c.in_ok-question.question in
+    let same = c.in_ok-question.ensures in
+    rw (← same.1, ← same.2, c.unwrap_or.ensures, c.index_of.ensures.value) (table_first t.lawful (m q.target) q.gain q.asked (sym (length-map t.points.now m)) c.least_from-least.ensures)

@@ -1,0 +1,4 @@
+pub mod Same
+pub mod Listed
+pub mod Checks
+pub mod TablesLemmas
