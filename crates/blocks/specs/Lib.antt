@@ -4,4 +4,3 @@ pub mod Systems
 pub mod Layouts
 pub mod Refusals
 pub mod Blocks
-pub mod Reading

@@ -1,14 +1,13 @@
 -- What the loading of a block refuses, and what it answers.
 --
---   when c f           the fault f, if c holds
---   first_of fs        the first fault that is there
 --   row_fault          of one row: its diagonal word, then n other words
 --   channel_fault      of the rows that are left, word by word
 --   load_fault         of the whole call, in the order of its checks
 --   rounded_system     the system of the rounded words
 --   load_answer        the fault, or that system
-use Rattle.std.specs.Prelude.{ℕ, zero, suc, ◌+◌, ◌*◌, Bool, true, false, not, ◌||◌, List, [], ◌∷◌, map, length, ℤ, pos, Some, None, Ok, Err, Option, Result, ◌==◌, int_lt, nat_lt, slice_index_or}
+use Rattle.std.specs.Prelude.{ℕ, zero, suc, ◌+◌, ◌*◌, Bool, not, ◌||◌, List, [], ◌∷◌, map, length, ℤ, pos, None, Option, Result, ◌==◌, int_le, int_lt, nat_lt, slice_index_or}
 use Rattle.std.specs.Option.{option_map}
+use Rattle.faults.specs.Refusals.{when, first_of, answer}
 use Rattle.faults.specs.declared.load.LoadFault.{LoadFault}
 use Rattle.faults.specs.declared.load.LoadFault.TheVariants.{ExtraBits, ChannelCount, ReceivedCount, Diagonal, Part, Received}
 use Rattle.points.specs.Points.{Shape, whole, pair, levels, parts}
@@ -16,25 +15,13 @@ use Rattle.blocks.specs.Rounding.{rounded}
 use Rattle.blocks.specs.Words.{first_outside}
 use Rattle.blocks.specs.Systems.{System, system}
 
-abbrev pub when : Bool → LoadFault → Option LoadFault
-when true f = Some f
-when false f = None
-
-abbrev pub or_else : Option LoadFault → Option LoadFault → Option LoadFault
-or_else (Some f) later = Some f
-or_else None later = later
-
-abbrev pub first_of : List (Option LoadFault) → Option LoadFault
-first_of [] = None
-first_of (f ∷ fs) = or_else f (first_of fs)
-
 -- how many words the channel list of a block has
 abbrev pub channel_word_count : Shape → ℕ
 channel_word_count whole = 36
 channel_word_count pair = 16
 
 abbrev pub outside_gain : ℤ → Bool
-outside_gain w = int_lt w (pos 0) || int_lt (pos 2047) w
+outside_gain w = int_lt w (pos 0) || int_le (pos 2048) w
 
 abbrev pub row_fault : ℕ → ℕ → List ℤ → Option LoadFault
 row_fault n i ws =
@@ -57,10 +44,6 @@ load_fault sh e cs zs =
     ∷ channel_fault sh (levels sh) 0 (map (rounded e) cs)
     ∷ option_map Received (first_outside 32768 8 0 (map (rounded e) zs))
     ∷ [])
-
-abbrev pub answer : {X : Type 0} → Option LoadFault → X → Result X LoadFault
-answer None x = Ok x
-answer (Some f) x = Err f
 
 abbrev pub rounded_system : Shape → ℕ → List ℤ → List ℤ → System
 rounded_system sh e cs zs = system sh (map (rounded e) cs) (map (rounded e) zs)

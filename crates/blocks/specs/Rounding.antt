@@ -4,7 +4,7 @@
 --   RoundsDown      it is: x is d times that quotient, and a rest below d
 --   rounded e w     (w + 2^(e−1)) / 2^e, rounded down; with no extra bits it is w
 --   bits_answer     e extra bits, or the refusal of more than 8
-use Rattle.std.specs.Prelude.{◌≡◌, ℕ, zero, suc, ◌/◌, ◌^◌, ◌<◌, cond, ℤ, pos, negsuc, ◌+ℤ◌, ◌*ℤ◌, Ok, Err, Result, nat_le}
+use Rattle.std.specs.Prelude.{◌≡◌, ℕ, zero, suc, ◌/◌, ◌^◌, ◌<◌, if◌then◌else◌, ℤ, pos, negsuc, ◌+ℤ◌, ◌*ℤ◌, Ok, Err, Result, nat_le}
 use Rattle.faults.specs.declared.load.LoadFault.{LoadFault}
 use Rattle.faults.specs.declared.load.LoadFault.TheVariants as fault
 
@@ -20,4 +20,4 @@ rounded zero w = w
 rounded (suc k) w = down (w +ℤ pos (2 ^ k)) (2 ^ suc k)
 
 abbrev pub bits_answer : ℕ → Result ℕ LoadFault
-bits_answer e = cond (nat_le e 8) (Ok e) (Err fault.ExtraBits)
+bits_answer e = if nat_le e 8 then Ok e else Err fault.ExtraBits

@@ -5,23 +5,28 @@ ghost use Rattle.blocks.specs.Rounding.{down, RoundsDown, rounded, bits_answer};
 
 use faults::load::LoadFault;
 
-// A number of extra bits: `ExtraBits::new` refuses more than 8.
+// A number of extra bits: `try_from` refuses more than 8.
 #[derive(Clone, Copy)]
 pub struct ExtraBits {
     count: u8,
     ghost few: { count ≤ 8 },
 }
 
-impl ExtraBits {
-    pub fn new(count: u8) -> Result<ExtraBits, LoadFault>
-        ensures { result_map_both (λ b. b.count) (λ f. f) result ≡ bits_answer count }
-    {
+impl TryFrom<u8> for ExtraBits {
+    type Error = LoadFault;
+
+    ghost try_from_gives = { λ count r.
+        result_map_both (λ b. b.count) (λ f. f) r ≡ bits_answer count };
+
+    fn try_from(count: u8) -> Result<Self, LoadFault> {
         if count > 8 {
             return Err(LoadFault::ExtraBits);
         }
         Ok(ExtraBits { count })
     }
+}
 
+impl ExtraBits {
     // The word without its extra bits, to the nearest number, halves up.
     pub fn round(self, word: i32) -> i32
         ensures value { result ≡ rounded self.count word }
@@ -30,23 +35,21 @@ impl ExtraBits {
         if self.count == 0 {
             return word;
         }
-        quotient(word as i64 + half(self.count), self.count) as i32
+        self.quotient(i64::from(word) + self.half()) as i32
     }
-}
 
-// Half of 2^count.
-fn half(count: u8) -> i64
-    requires some { 0 < count }
-    requires few { count ≤ 8 }
-    ensures { result ≡ pos (2 ^ (count - 1)) }
-{
-    1 << (count - 1)
-}
+    // Half of 2^count.
+    fn half(self) -> i64
+        requires { 0 < self.count }
+        ensures { result ≡ pos (2 ^ (self.count - 1)) }
+    {
+        1 << (self.count - 1)
+    }
 
-// x / 2^count, rounded down.
-fn quotient(x: i64, count: u8) -> i64
-    requires { count ≤ 8 }
-    ensures { result ≡ down x (2 ^ count) }
-{
-    x >> count
+    // x / 2^count, rounded down.
+    fn quotient(self, x: i64) -> i64
+        ensures { result ≡ down x (2 ^ self.count) }
+    {
+        x >> self.count
+    }
 }

@@ -1,17 +1,13 @@
-use Rattle.std.proofs.Common.{◌≡◌, ℕ, suc, ◌+◌, ◌*◌, get_or, sym, ap, ◌∙◌, subst, arith}
-use Rattle.points.specs.Points.{Within, origin, parts, value_at}
-use Rattle.blocks.specs.Blocks.{row_of}
+use Rattle.std.proofs.Common.{◌≡◌, ◌+◌, ◌*◌, sym, arith, add-one}
+use Rattle.points.specs.Points.{parts}
 use Rattle.blocks.proofs.Rows.{value_of_many, value_near}
 use Rattle.blocks.proofs.words.ChannelRow.coupling.Goals as goal
 
-pub returns : goal.returns
-returns g c =
+pub returns-clause-value : goal.returns-clause-value
+returns-clause-value g c = λ n h.
     let sh = g.K.Kind.shape in
-    let row = c.args.self.now in
-    let k = c.args.k in
-    let z : parts sh * k ≡ 0 + parts sh * k = omega arith in
-    let next : suc k ≡ k + 1 = omega arith in
-    record {
-      value = λ n h. c.read.ensures ∙ ap (value_at sh row.words) z ∙ sym (value_of_many sh n 0 k row.words h) ∙ ap (λ (j : ℕ). get_or (row_of sh n row) j origin) next;
-      near = subst (Within 2048) (sym c.read.ensures) (value_near sh 2048 row.words (parts sh * k) row.near);
-    }
+    let start : 0 + parts sh * c.args.k ≡ parts sh * c.args.k = omega arith in
+    rw (add-one, c.read.ensures) (sym (rw start at (value_of_many sh n 0 c.args.k c.args.self.now.words h)))
+
+pub returns-clause-near : goal.returns-clause-near
+returns-clause-near g c = rw c.read.ensures (value_near g.K.Kind.shape 2048 c.args.self.now.words _ c.args.self.now.near)
