@@ -1,9 +1,9 @@
 -- Every distance is under 2^40.
-use Rattle.std.proofs.Common.{◌≡◌, ℕ, zero, suc, ◌+◌, ◌*◌, ◌^◌, ◌<◌, ◌≤◌, true, List, [], ◌∷◌, length, get_or, ℤ, pos, nat_abs, sym, ap, subst, ⊎_elim, mul-suc, arith, lit<}
+use Rattle.std.proofs.Common.{◌≡◌, ℕ, zero, suc, ◌+◌, ◌*◌, ◌^◌, ◌<◌, ◌≤◌, true, List, [], ◌∷◌, length, get_or, ℤ, pos, nat_abs, ap, ⊎_elim, mul-suc, arith, lit<}
 use Rattle.std.proofs.lemmas.List.{get_or_past}
 use Rattle.std.proofs.lemmas.Bool.{cases_lt}
 use Rattle.std.specs.List.{AllByRecursion}
-use Rattle.points.specs.Points.{Gaussian, real, origin, plus, minus, times, Within, Shape, whole, pair, levels, parts, project, value_at}
+use Rattle.points.specs.Points.{Gaussian, real, origin, minus, times, Within, Shape, whole, pair, levels, parts, project, value_at}
 use Rattle.points.proofs.Inside.{Inside, span, origin_inside, times_inside, plus_inside, minus_inside, norm_inside}
 use Rattle.alphabets.specs.Alphabets.{Lawful}
 use Rattle.blocks.specs.declared.words.ChannelRow.{ChannelRow}
@@ -21,8 +21,7 @@ dot_inside sh [] ss h k = origin_inside sh (span sh * 0)
 dot_inside sh (r ∷ rs) [] h k = origin_inside sh (span sh * suc (length rs))
 dot_inside sh (r ∷ rs) (s ∷ ss) h k =
     let more : span sh + span sh * length rs ≡ span sh * suc (length rs) = omega (arith, mul-suc (span sh) (length rs)) in
-    subst (λ (b : ℕ). Inside sh b (plus (times r s) (dot rs ss))) more
-    (plus_inside sh (span sh) (span sh * length rs) (times r s) (dot rs ss) (times_inside sh r s h.0 k.0) (dot_inside sh rs ss h.1 k.1))
+    rw (← more) (plus_inside sh (span sh) (span sh * length rs) (times r s) (dot rs ss) (times_inside sh r s h.0 k.0) (dot_inside sh rs ss h.1 k.1))
 
 -- what a block and an alphabet hold lies inside
 values_inside : (sh : Shape) (b n i : ℕ) (ws : List ℤ) → all_within b ws ≡ true → AllByRecursion (Inside sh b) (values sh n i ws)
@@ -45,7 +44,7 @@ spelled_inside sh pts lawful [] = tt
 spelled_inside sh pts lawful (i ∷ w) = (
   ⊎_elim
       (λ h. point_inside sh (get_or pts i origin) (lawful.near i h) (lawful.own i h))
-      (λ h. subst (Inside sh 15) (sym (get_or_past pts i origin h)) (origin_inside sh 15))
+      (λ h. rw (get_or_past pts i origin h) (origin_inside sh 15))
       (cases_lt i (length pts)),
   spelled_inside sh pts lawful w,
 )
@@ -62,8 +61,7 @@ distance_reach sh (suc k) i (r ∷ rs) ws [] t h = omega arith
 distance_reach sh (suc k) i (r ∷ rs) ws (s ∷ ss) t h =
     let row = row_of sh k r in
     let z = value_at sh ws i in
-    let size = ap suc (length_values sh k 0 r.words) in
-    let sum = subst (λ (n : ℕ). Inside sh (span sh * n) (dot row (s ∷ ss))) size (dot_inside sh row (s ∷ ss) (row_inside sh k r) h) in
+    let sum = rw (length_values sh k 0 r.words) at (dot_inside sh row (s ∷ ss) (row_inside sh k r) h) in
     let here = norm_inside sh (32768 + span sh * suc k) (minus z (dot row (s ∷ ss))) (minus_inside sh 32768 (span sh * suc k) z (dot row (s ∷ ss)) (value_inside sh 32768 ws i t) sum) in
     let rest = distance_reach sh k (i + parts sh) rs ws ss t h.1 in
     omega (arith, here, rest)

@@ -1,13 +1,24 @@
--- A decision, by the fault of the load before it.
-use Rattle.std.proofs.Common.{◌≡◌, ℕ, Some, None, Ok, Err, Option, Result, ap, ◌∙◌}
-use Rattle.blocks.proofs.Loads.{never}
-use Rattle.codewords.specs.Nearest.{Decided}
+-- A decision, by the answer of the load before it.
+use Rattle.std.proofs.Common.{◌≡◌, ℕ, List, ℤ, Ok, Err, Result, ap, subst}
+use Rattle.std.specs.Prelude.{IsErrAnd}
+use Rattle.faults.specs.declared.load.LoadFault.{LoadFault}
+use Rattle.points.specs.Points.{Gaussian, Shape, levels}
+use Rattle.blocks.specs.Systems.{System}
+use Rattle.blocks.specs.Refusals.{load_fault, rounded_system, load_answer}
+use Rattle.blocks.proofs.Loads.{answered, refused}
+use Rattle.codewords.specs.declared.exhaustive.Decision.{Decision}
+use Rattle.codewords.specs.Nearest.{Nearest, Decided}
 
-module _ {D F : Type 0} (P : D → Type 0) where
-  pub decided_ok : (o : Option F) (d : D) → o ≡ None → P d → Decided o (Ok d) P
-  decided_ok None d e h = h
-  decided_ok (Some f) d e h = let bad : ◌≡◌ {A = ℕ} 0 1 = cc in absurd (never bad)
+module _ (sh : Shape) (e : ℕ) (cs zs : List ℤ) (pts : List Gaussian) where
+  -- what is owed for raw words and an alphabet
+  abbrev pub Owed : Result Decision LoadFault → Type 0
+  Owed r = Decided (load_fault sh e cs zs) r (λ d. Nearest (rounded_system sh e cs zs) pts (levels sh) d.codeword d.distance)
 
-  pub decided_err : (o : Option F) (r : Result D F) (f : F) → o ≡ Some f → r ≡ Err f → Decided o r P
-  decided_err None r f e q = let bad : ◌≡◌ {A = ℕ} 0 1 = cc in absurd (never bad)
-  decided_err (Some g) r f e q = let same : f ≡ g = cc in q ∙ ap Err same
+  pub decided_ok : (b : System) (d : Decision) → Ok b ≡ load_answer sh e cs zs → Nearest b pts (levels sh) d.codeword d.distance → Owed (Ok d)
+  decided_ok b d is h =
+      let p = answered (load_fault sh e cs zs) (rounded_system sh e cs zs) b is in
+      rw p.0 (subst (λ (z : System). Nearest z pts (levels sh) d.codeword d.distance) p.1 h)
+
+  pub decided_err : (f : LoadFault) (r : Result Decision LoadFault) → Err f ≡ load_answer sh e cs zs → IsErrAnd r (λ y. y ≡ f) → Owed r
+  decided_err f (Ok d) is h = absurd h
+  decided_err f (Err y) is h = rw (refused (load_fault sh e cs zs) (rounded_system sh e cs zs) f is) (ap Err h)

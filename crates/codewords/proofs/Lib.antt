@@ -1,5 +1,5 @@
 pub mod Numbering
-pub mod Least
+pub mod Best
 pub mod Targets
 pub mod Bounds
 pub mod Sums

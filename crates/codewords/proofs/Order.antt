@@ -1,39 +1,29 @@
 -- Codeword order is strict, so there is one nearest codeword.
-use Rattle.std.proofs.Common.{◌≡◌, ℕ, ◌<◌, ◌⊎◌, List, [], ◌∷◌, sym, refl, ap, ◌∙◌, subst, ap₂, inl, inr, ⊎_elim, arith}
+use Rattle.std.proofs.Common.{◌≡◌, ℕ, ◌<◌, ◌⊎◌, List, [], ◌∷◌, length, sym, ap, ◌∙◌, inl, inr, ⊎_elim, arith}
 use Rattle.std.proofs.lemmas.Bool.{cases_eq}
 use Rattle.codewords.specs.Codewords.{Earlier}
 use Rattle.codewords.specs.Distances.{distance_of}
 use Rattle.codewords.specs.Nearest.{Settled}
+use Rattle.codewords.specs.Numbers.{numbered}
+use Rattle.codewords.proofs.Numbering.{number_of, numbered_number}
 
-never_earlier : (v : List ℕ) → Earlier v v → ⊥
-never_earlier [] e = e
-never_earlier (i ∷ v) (inl e) = never_earlier v e
-never_earlier (i ∷ v) (inr p) = let h = p.1 in omega arith
-
+-- of two words one at most comes before the other
 one_way : (v w : List ℕ) → Earlier v w → Earlier w v → ⊥
 one_way [] w e f = e
 one_way (i ∷ v) [] e f = e
 one_way (i ∷ v) (j ∷ w) (inl e) (inl f) = one_way v w e f
-one_way (i ∷ v) (j ∷ w) (inl e) (inr q) = never_earlier v (subst (Earlier v) q.0 e)
-one_way (i ∷ v) (j ∷ w) (inr p) (inl f) = never_earlier w (subst (Earlier w) p.0 f)
+one_way (i ∷ v) (j ∷ w) (inl e) (inr q) = let twice : Earlier v v = rw q.0 at e in one_way v v twice twice
+one_way (i ∷ v) (j ∷ w) (inr p) (inl f) = let twice : Earlier v v = rw (← p.0) at f in one_way v v twice twice
 one_way (i ∷ v) (j ∷ w) (inr p) (inr q) = let h = p.1 in let k = q.1 in omega arith
-
-same_or_not : (v w : List ℕ) → (v ≡ w) ⊎ (v ≡ w → ⊥)
-same_or_not [] [] = inl refl
-same_or_not [] (j ∷ w) = inr (λ e. let z : ◌≡◌ {A = ℕ} 0 1 = cc in omega arith)
-same_or_not (i ∷ v) [] = inr (λ e. let z : ◌≡◌ {A = ℕ} 0 1 = cc in omega arith)
-same_or_not (i ∷ v) (j ∷ w) =
-    ⊎_elim
-    (λ p. ⊎_elim (λ q. inl (ap₂ ◌∷◌ p q)) (λ no-tail. inr (λ e. no-tail (cc))) (same_or_not v w))
-    (λ no-head. inr (λ e. no-head (cc)))
-    (cases_eq i j)
 
 pub settled : Settled
 settled b pts n v w c d p q =
+    let m = length pts in
+    let far : v ≡ w → (v ≡ w) × (c ≡ d) = λ e. (e, p.reached.value ∙ ap (distance_of b pts) e ∙ sym q.reached.value) in
     ⊎_elim
-    (λ e. (e, p.reached.value ∙ ap (distance_of b pts) e ∙ sym q.reached.value))
-    (λ other. absurd (clash (p.ahead w q.reached.codeword (λ e. other (sym e))) (q.ahead v p.reached.codeword other)))
-    (same_or_not v w)
+    (λ e. far (sym (numbered_number m n v p.reached.codeword) ∙ ap (numbered m n) e ∙ numbered_number m n w q.reached.codeword))
+    (λ other. absurd (clash (p.ahead w q.reached.codeword (λ e. other (ap (number_of m) (sym e)))) (q.ahead v p.reached.codeword (λ e. other (ap (number_of m) e)))))
+    (cases_eq (number_of m v) (number_of m w))
   where
     clash : (c < distance_of b pts w) ⊎ ((c ≡ distance_of b pts w) × Earlier v w) → (d < distance_of b pts v) ⊎ ((d ≡ distance_of b pts v) × Earlier w v) → ⊥
     clash (inl h) (inl k) = omega (arith, p.reached.value, q.reached.value)

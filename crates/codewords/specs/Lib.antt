@@ -1,3 +1,4 @@
+pub mod Codebooks
 pub mod Codewords
 pub mod Distances
 pub mod Targets

@@ -1,37 +1,23 @@
-// A codeword by the indices of its points.
-ghost use Rattle.std.specs.Prelude.{◌≡◌, ◌<◌, ◌≤◌, length, take};
+// Codewords by the indices of their points, s_1 first.
+ghost use Rattle.std.specs.Prelude.{◌≡◌, ◌<◌, ◌≤◌};
 ghost use Rattle.codewords.specs.Numbers.{numbered};
 
-// The first `levels` indices count, s_1 first.
-#[derive(Clone, Copy)]
-pub struct Codeword {
-    indices: [usize; 8],
-    levels: usize,
-    ghost eight: { length indices ≡ 8 },
-    ghost few: { levels ≤ 8 },
-}
+use alphabets::indices::Indices;
 
-impl Codeword {
-    // The codeword number `number`, in codeword order, over an alphabet of `size` points.
-    pub(crate) fn numbered(size: usize, levels: usize, number: usize) -> Codeword
-        requires some { 0 < size }
-        requires few { levels ≤ 8 }
-        ensures word { take result.levels result.indices ≡ numbered size levels number }
-        ensures levels { result.levels ≡ levels }
-    {
-        let mut indices = [0; 8];
-        let mut rest = number;
-        for level in 0..levels {
-            indices[level] = rest % size;
-            rest /= size;
-        }
-        Codeword { indices, levels }
-    }
+// An index for each level.
+pub type Codeword = Indices<8>;
 
-    // The indices, s_1 first.
-    pub fn as_slice(&self) -> &[usize]
-        ensures { result.now ≡ take self.now.levels self.now.indices }
-    {
-        &self.indices[0..self.levels]
+// The codeword number `number`, in codeword order, over an alphabet of `size` points.
+pub(crate) fn codeword_numbered(size: usize, levels: usize, number: usize) -> Codeword
+    requires some { 0 < size }
+    requires few { levels ≤ 8 }
+    ensures { result ≡ numbered size levels number }
+{
+    let mut word = Codeword::new();
+    let mut rest = number;
+    for _ in 0..levels {
+        word.push(rest % size);
+        rest /= size;
     }
+    word
 }

@@ -2,18 +2,18 @@
 ghost use Rattle.std.specs.Prelude.{◌≡◌, ◌^◌, ◌<◌, ◌≤◌, length};
 ghost use Rattle.points.specs.Points.{levels};
 ghost use Rattle.blocks.specs.Refusals.{load_fault, rounded_system};
-ghost use Rattle.blocks.specs.Blocks.{block_of};
-ghost use Rattle.codewords.specs.Codewords.{word_of};
+ghost use Rattle.codewords.specs.Distances.{distance_of};
+ghost use Rattle.codewords.specs.Numbers.{numbered};
 ghost use Rattle.codewords.specs.Nearest.{Nearest, Settled, Decided};
 
-use crate::codeword::Codeword;
-use crate::distance::word_distance;
+use crate::codebook::Codebook;
+use crate::codeword::{Codeword, codeword_numbered};
 use alphabets::alphabet::Alphabet;
 use blocks::block::Block;
 use faults::load::LoadFault;
 use points::kind::Kind;
 
-#[derive(Clone, Copy)]
+#[derive(Clone, Copy, PartialEq, Eq, Debug)]
 pub struct Decision {
     pub codeword: Codeword,
     pub distance: u64,
@@ -26,10 +26,12 @@ pub fn decide<B: Alphabet>(
     channel: &[i32],
     received: &[i32],
 ) -> Result<Decision, LoadFault>
-    ensures { Decided (load_fault B.Point.Kind.shape extra_bits channel.now received.now) result (λ d. Nearest (rounded_system B.Point.Kind.shape extra_bits channel.now received.now) (B.points alphabet.now) (levels B.Point.Kind.shape) (word_of d.codeword) d.distance) }
+    ensures { Decided (load_fault B.Point.Kind.shape extra_bits channel.now received.now) result
+        (λ d. Nearest (rounded_system B.Point.Kind.shape extra_bits channel.now received.now)
+        (B.points alphabet.now) (levels B.Point.Kind.shape) d.codeword d.distance) }
 {
     let block = Block::<B::Point>::load(extra_bits, channel, received)?;
-    Ok(nearest(alphabet, &block))
+    Ok(Codebook::new(alphabet, &block).nearest())
 }
 
 // How many codewords there are.
@@ -37,31 +39,36 @@ pub fn codeword_count<B: Alphabet>(alphabet: &B) -> usize
     ensures value { result ≡ length (B.points alphabet.now) ^ levels B.Point.Kind.shape }
     ensures bound { result ≤ 2 ^ 32 }
 {
-    alphabet
-        .size()
-        .pow(<B::Point as Kind>::level_count() as u32)
+    alphabet.size().pow(<B::Point as Kind>::LEVELS as u32)
 }
 
-// The nearest codeword, the earlier one among equals.
-pub fn nearest<B: Alphabet>(alphabet: &B, block: &Block<B::Point>) -> Decision
-    ensures nearest { Nearest (block_of B.Point.Kind.shape block.now.words) (B.points alphabet.now) (levels B.Point.Kind.shape) (word_of result.codeword) result.distance }
-    ensures settled { Settled }
-{
-    let words = block.words();
-    let size = alphabet.size();
-    let levels = <B::Point as Kind>::level_count();
-    let mut best = Codeword::numbered(size, levels, 0);
-    let mut least = word_distance(alphabet, words, best.as_slice());
-    for number in 1..codeword_count(alphabet) {
-        let codeword = Codeword::numbered(size, levels, number);
-        let distance = word_distance(alphabet, words, codeword.as_slice());
-        if distance < least {
-            best = codeword;
-            least = distance;
+impl<'a, B: Alphabet> Codebook<'a, B> {
+    // The nearest codeword, the earlier one among equals.
+    pub fn nearest(&self) -> Decision
+        ensures nearest { Nearest self.now.system self.now.points (levels B.Point.Kind.shape)
+            result.codeword result.distance }
+        ensures settled { Settled }
+    {
+        let mut best = self.decision(0);
+        for number in 1..codeword_count(self.alphabet) {
+            let decision = self.decision(number);
+            if decision.distance < best.distance {
+                best = decision;
+            }
         }
+        best
     }
-    Decision {
-        codeword: best,
-        distance: least,
+
+    // The codeword of this number, and its distance.
+    fn decision(&self, number: usize) -> Decision
+        ensures codeword { result.codeword
+            ≡ numbered (length self.now.points) (levels B.Point.Kind.shape) number }
+        ensures distance { result.distance
+            ≡ distance_of self.now.system self.now.points result.codeword }
+        ensures bound { result.distance < 2 ^ 40 }
+    {
+        let codeword = codeword_numbered(self.alphabet.size(), <B::Point as Kind>::LEVELS, number);
+        let distance = self.word_distance(codeword.as_slice());
+        Decision { codeword, distance }
     }
 }

@@ -1,0 +1,6 @@
+use Rattle.points.specs.Points.{levels}
+use Rattle.codewords.proofs.Best.{Best}
+use Rattle.codewords.proofs.codebook.Codebook.nearest.Given as goal
+
+abbrev pub invariant-loop-number : goal.invariant-loop-number
+invariant-loop-number g l = Best l.self.system l.self.points (levels g.B.Point.Kind.shape) l.number l.best.codeword l.best.distance
