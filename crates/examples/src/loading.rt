@@ -61,23 +61,20 @@ fn check_load<K: Kind>(
     number: Option<u8>,
     place: usize,
 ) {
-    let told = match Block::<K>::load(extra_bits, channel, received) {
-        Ok(_) => None,
-        Err(fault) => Some(fault.report()),
-    };
+    let told = Block::<K>::load(extra_bits, channel, received)
+        .err()
+        .map(Report::from);
     let layer = Layer::Decoder;
-    let expected = match number {
-        Some(number) => Some(Report {
-            number,
-            place,
-            layer,
-        }),
-        None => None,
-    };
+    let expected = number.map(|number| Report {
+        number,
+        place,
+        layer,
+    });
     assert_eq!(rt; told, expected);
 }
 
-// Each case at each place of its list, where all other words are 0.
+// Each case at each place of its list, where all other words are 0. Places are counted, here and below: each turn changes
+// one word and hands on the whole list, so no word can stay borrowed.
 fn check_limits<K: Kind>(
     rt: &impl Abort,
     channel: &mut [i32],

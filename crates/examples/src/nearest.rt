@@ -1,7 +1,7 @@
 // Nearest codewords and distances. What is expected was computed by hand, or by a program in another language.
 use alphabets::alphabet::Alphabet;
 use blocks::block::Block;
-use codewords::distance::distance;
+use codewords::codebook::Codebook;
 use codewords::exhaustive::decide;
 use grids::grid::Grid;
 use pams::pam::{Pam, PamSize};
@@ -87,7 +87,7 @@ fn check_nearest<B: Alphabet>(
     let decision = decide(alphabet, 0, channel.as_slice(), received)?;
     assert_eq!(rt; decision.codeword.as_slice(), word);
     assert_eq!(rt; decision.distance, least);
-    assert_eq!(rt; distance(alphabet, &block, word), Some(least));
+    assert_eq!(rt; Codebook::new(alphabet, &block).distance(word), Some(least));
     Ok(())
 }
 
@@ -152,8 +152,9 @@ fn distances(rt: HostRuntime) -> Result<(), Fail> {
     let grid = Grid::new(Pam::new(PamSize::Two));
     let channel = words(rt.alloc(), &PLAIN)?;
     let block = Block::<Pair>::load(0, channel.as_slice(), &[10, -10, 10, -10, 10, -10, 10, -10])?;
+    let codebook = Codebook::new(&grid, &block);
     for (word, expected) in &LISTS {
-        assert_eq!(rt; distance(&grid, &block, word), *expected);
+        assert_eq!(rt; codebook.distance(word), *expected);
     }
     Ok(())
 }

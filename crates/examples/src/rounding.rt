@@ -25,8 +25,8 @@ const CASES: [(u8, i32, i32); 16] = [
 #[test]
 fn words_round(rt: HostRuntime) -> Result<(), Fail> {
     for (extra_bits, raw, rounded) in &CASES {
-        assert_eq!(rt; ExtraBits::new(*extra_bits)?.round(*raw), *rounded);
+        assert_eq!(rt; ExtraBits::try_from(*extra_bits)?.round(*raw), *rounded);
     }
-    assert!(rt; ExtraBits::new(9).is_err());
+    assert!(rt; ExtraBits::try_from(9).is_err());
     Ok(())
 }

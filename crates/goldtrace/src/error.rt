@@ -16,11 +16,12 @@ pub enum TraceError {
     Output(io::Error),
 }
 
+// One for each fault, by hand: a derived `From` has no contract, and one over every fault would overlap with that of `io::Error`.
 impl From<LoadFault> for TraceError {
     ghost from_gives = { λ fault r. r ≡ Refused (load_report fault) };
 
     fn from(fault: LoadFault) -> TraceError {
-        TraceError::Refused(fault.report())
+        TraceError::Refused(Report::from(fault))
     }
 }
 
@@ -28,7 +29,7 @@ impl From<AlphabetFault> for TraceError {
     ghost from_gives = { λ fault r. r ≡ Refused (alphabet_report fault) };
 
     fn from(fault: AlphabetFault) -> TraceError {
-        TraceError::Refused(fault.report())
+        TraceError::Refused(Report::from(fault))
     }
 }
 

@@ -21,13 +21,13 @@ fn main(rt: HostRuntime) -> Result<(), TraceError> {
 
 fn run(rt: &impl Print) -> Result<(), TraceError> {
     println!(rt; "Raw words, with {EXTRA_BITS} extra bits")?;
-    trace::print_words(rt, ExtraBits::new(0)?, &CHANNEL, &RECEIVED)?;
+    trace::print_words(rt, ExtraBits::try_from(0)?, &CHANNEL, &RECEIVED)?;
     println!(rt; "\nWords after rounding")?;
-    trace::print_words(rt, ExtraBits::new(EXTRA_BITS)?, &CHANNEL, &RECEIVED)?;
+    trace::print_words(rt, ExtraBits::try_from(EXTRA_BITS)?, &CHANNEL, &RECEIVED)?;
     let block = Block::<Pair>::load(EXTRA_BITS, &CHANNEL, &RECEIVED)?;
     println!(rt; "\nLevels: gain, couplings to the levels above, received value")?;
     trace::print_levels(rt, block.words())?;
-    let alphabet = Grid::new(Pam::new(PamSize::new(SIDE)?));
+    let alphabet = Grid::new(Pam::new(PamSize::try_from(SIDE)?));
     let codewords = codeword_count(&alphabet);
     println!(rt; "\nNearest of {codewords} codewords")?;
     let decision = decide(&alphabet, EXTRA_BITS, &CHANNEL, &RECEIVED)?;

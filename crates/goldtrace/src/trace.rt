@@ -6,19 +6,9 @@ use alphabets::alphabet::Alphabet;
 use blocks::rounding::ExtraBits;
 use blocks::words::BlockWords;
 use codewords::exhaustive::Decision;
+use points::kind::Kind;
 use points::pair::Pair;
-use std::{fmt, io};
-
-// A complex number, as 12-7i.
-#[derive(Clone, Copy)]
-struct Complex(Pair);
-
-impl fmt::Display for Complex {
-    fn fmt<W: fmt::Write>(&self, f: &mut fmt::Formatter<W>) -> fmt::Result {
-        let Pair { re, im } = self.0;
-        write!(f, "{re}{im:+}i")
-    }
-}
+use std::io;
 
 // The channel by rows, and the received words, each rounded by so many extra bits: with none a word is as it came.
 pub fn print_words(
@@ -43,9 +33,9 @@ fn print_list(rt: &impl Print, name: &str, bits: ExtraBits, words: &[i32]) -> io
     println!(rt; "")
 }
 
-// The levels of a block, from the last to the first.
+// The levels of a block, from the last to the first. A block is asked for a level by its number, and has no slice of them.
 pub fn print_levels(rt: &impl Print, block: &BlockWords) -> io::Result<()> {
-    for level in (0..4).rev() {
+    for level in (0..Pair::LEVELS).rev() {
         print_level(rt, block, level)?;
     }
     Ok(())
@@ -58,12 +48,11 @@ fn print_level(rt: &impl Print, block: &BlockWords, level: usize) -> io::Result<
     let row = block.row(level);
     let gain = row.gain();
     print!(rt; "  level {n}: r_{n}{n} = {gain}")?;
-    for k in 0..3 - level {
-        let above = n + 1 + k;
-        let coupling = Complex(row.coupling::<Pair>(k));
+    for above in n + 1..=Pair::LEVELS {
+        let coupling = row.coupling::<Pair>(above - n - 1);
         print!(rt; ", r_{n}{above} = {coupling}")?;
     }
-    let received = Complex(block.received::<Pair>(level));
+    let received = block.received::<Pair>(level);
     println!(rt; ", z_{n} = {received}")
 }
 
@@ -75,7 +64,7 @@ pub fn print_decision<B: Alphabet<Point = Pair>>(
 ) -> Result<(), TraceError> {
     for (level, index) in decision.codeword.as_slice().iter().enumerate().rev() {
         let n = level + 1;
-        let point = Complex(alphabet.point(*index)?);
+        let point = alphabet.point(*index)?;
         println!(rt; "  s_{n}: index {index:>2}, point {point}")?;
     }
     let distance = decision.distance;

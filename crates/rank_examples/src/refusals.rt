@@ -8,32 +8,25 @@ use pams::pam::{Pam, PamSize};
 use points::kind::Kind;
 use points::pair::Pair;
 use points::whole::Whole;
-use rankings::ranking::Ranking;
+use rankings::ranking::whole_ranking;
 use std::alloc::{AllocError, Global};
 use std::process::Abort;
 use std::test::Fail;
-use tables::list::{PairPoints, PointList, WholePoints};
-use tables::table::Table;
+use tables::table::{PairTable, Table, WholeTable};
 
-// A refusal's number and place, if there is one.
+// A refusal's number and place, if there is one. As in the other examples: a library for both is longer than this.
 fn check_answer<T: Drop>(
     rt: &impl Abort,
     answer: Result<T, AlphabetFault>,
     refusal: Option<(u8, usize)>,
 ) {
-    let told = match answer {
-        Ok(_) => None,
-        Err(fault) => Some(fault.report()),
-    };
+    let told = answer.err().map(Report::from);
     let layer = Layer::Alphabet;
-    let expected = match refusal {
-        Some((number, place)) => Some(Report {
-            number,
-            place,
-            layer,
-        }),
-        None => None,
-    };
+    let expected = refusal.map(|(number, place)| Report {
+        number,
+        place,
+        layer,
+    });
     assert_eq!(rt; told, expected);
 }
 
@@ -54,18 +47,12 @@ const LISTS: [(&[i32], Option<(u8, usize)>); 12] = [
 ];
 
 // What a list is refused with; a refused list leaves the point 0 alone.
-fn check_whole(rt: &impl Abort, points: &[Whole], refusal: Option<(u8, usize)>) {
-    let mut list = WholePoints::origin();
-    check_answer(rt, list.lend(points), refusal);
+fn check_list<K: Kind + 'static>(rt: &impl Abort, points: &[K], refusal: Option<(u8, usize)>) {
+    let mut table = Table::origin();
+    check_answer(rt, table.lend(points), refusal);
     let size = if refusal.is_none() { points.len() } else { 1 };
-    assert_eq!(rt; Table::new(list).size(), size);
-}
-
-fn check_pairs(rt: &impl Abort, points: &[Pair], refusal: Option<(u8, usize)>) {
-    let mut list = PairPoints::origin();
-    check_answer(rt, list.lend(points), refusal);
-    let size = if refusal.is_none() { points.len() } else { 1 };
-    assert_eq!(rt; Table::new(list).size(), size);
+    assert_eq!(rt; table.size(), size);
+    check_answer(rt, Table::try_from(points), refusal);
 }
 
 fn wholes(heap: Global, values: &[i32]) -> Result<Vec<Whole>, AllocError> {
@@ -79,7 +66,7 @@ fn wholes(heap: Global, values: &[i32]) -> Result<Vec<Whole>, AllocError> {
 #[test]
 fn whole_tables(rt: HostRuntime) -> Result<(), Fail> {
     for (values, refusal) in &LISTS {
-        check_whole(&rt, wholes(rt.alloc(), values)?.as_slice(), *refusal);
+        check_list(&rt, wholes(rt.alloc(), values)?.as_slice(), *refusal);
     }
     Ok(())
 }
@@ -127,7 +114,7 @@ const PAIR_LISTS: [PairList; 9] = [
 #[test]
 fn pair_tables(rt: HostRuntime) -> Result<(), Fail> {
     for (count, index, other, refusal) in &PAIR_LISTS {
-        check_pairs(
+        check_list(
             &rt,
             pairs(rt.alloc(), *count, *index, *other)?.as_slice(),
             *refusal,
@@ -138,42 +125,63 @@ fn pair_tables(rt: HostRuntime) -> Result<(), Fail> {
         Pair { re: 9, im: 9 },
         Pair { re: 0, im: 99 },
     ];
-    check_pairs(&rt, &first_of_two, Some((13, 1)));
+    check_list(&rt, &first_of_two, Some((13, 1)));
     Ok(())
 }
 
-// A target's parts, a gain, an index that may be past the end, and the refusals of first and next.
-type Question = (i32, i32, u32, bool, Option<u8>, Option<u8>);
+// The index that `next` is asked about.
+#[derive(Clone, Copy)]
+enum Asked {
+    First,
+    PastTheLast,
+}
+
+// A target's parts, a gain, an index, and the refusals of first and next.
+type Question = (i32, i32, u32, Asked, Option<u8>, Option<u8>);
 
 const QUESTIONS: [Question; 12] = [
-    (0, 0, 0, false, None, None),
-    (0, 0, 0, true, None, Some(15)),
-    (1_048_576, -1_048_576, 2047, false, None, None),
-    (1_048_576, -1_048_576, 2047, true, None, Some(15)),
-    (1_048_577, 0, 0, false, Some(14), Some(14)),
-    (-1_048_577, 0, 0, true, Some(14), Some(14)),
-    (0, 0, 2048, false, Some(14), Some(14)),
-    (0, 0, u32::MAX, true, Some(14), Some(14)),
-    (i32::MIN, 0, 2048, true, Some(14), Some(14)),
-    (i32::MAX, 0, 1, false, Some(14), Some(14)),
-    (1_048_577, 1_048_577, 0, false, Some(14), Some(14)),
-    (i32::MIN, i32::MIN, 2047, true, Some(14), Some(14)),
+    (0, 0, 0, Asked::First, None, None),
+    (0, 0, 0, Asked::PastTheLast, None, Some(15)),
+    (1_048_576, -1_048_576, 2047, Asked::First, None, None),
+    (
+        1_048_576,
+        -1_048_576,
+        2047,
+        Asked::PastTheLast,
+        None,
+        Some(15),
+    ),
+    (1_048_577, 0, 0, Asked::First, Some(14), Some(14)),
+    (-1_048_577, 0, 0, Asked::PastTheLast, Some(14), Some(14)),
+    (0, 0, 2048, Asked::First, Some(14), Some(14)),
+    (0, 0, u32::MAX, Asked::PastTheLast, Some(14), Some(14)),
+    (i32::MIN, 0, 2048, Asked::PastTheLast, Some(14), Some(14)),
+    (i32::MAX, 0, 1, Asked::First, Some(14), Some(14)),
+    (1_048_577, 1_048_577, 0, Asked::First, Some(14), Some(14)),
+    (
+        i32::MIN,
+        i32::MIN,
+        2047,
+        Asked::PastTheLast,
+        Some(14),
+        Some(14),
+    ),
 ];
 
 // A question's refusal names no place.
 fn numbered(number: Option<u8>) -> Option<(u8, usize)> {
-    match number {
-        Some(number) => Some((number, 0)),
-        None => None,
-    }
+    number.map(|number| (number, 0))
 }
 
 fn check_questions<B: Ranked>(rt: &impl Abort, alphabet: &B) {
-    for (re, im, gain, past, first, next) in &QUESTIONS {
+    for (re, im, gain, asked, first, next) in &QUESTIONS {
         let target = <B::Point as Kind>::from_parts(*re, *im);
         check_answer(rt, alphabet.first(target, *gain), numbered(*first));
-        check_answer(rt, Ranking::of(alphabet, target, *gain), numbered(*first));
-        let index = if *past { alphabet.size() } else { 0 };
+        check_answer(rt, whole_ranking(alphabet, target, *gain), numbered(*first));
+        let index = match asked {
+            Asked::First => 0,
+            Asked::PastTheLast => alphabet.size(),
+        };
         check_answer(rt, alphabet.next(target, *gain, index), numbered(*next));
     }
     check_answer(
@@ -188,9 +196,9 @@ fn questions(rt: HostRuntime) {
     check_questions(&rt, &Pam::new(PamSize::Two));
     check_questions(&rt, &Pam::new(PamSize::Sixteen));
     check_questions(&rt, &Grid::new(Pam::new(PamSize::Four)));
-    check_questions(&rt, &Table::new(WholePoints::origin()));
-    check_questions(&rt, &Table::new(PairPoints::origin()));
-    check_questions(&rt, &Grid::new(Table::new(WholePoints::origin())));
+    check_questions(&rt, &WholeTable::origin());
+    check_questions(&rt, &PairTable::origin());
+    check_questions(&rt, &Grid::new(WholeTable::origin()));
 }
 
 // The imaginary part of a pair's target counts too.
@@ -205,5 +213,5 @@ fn check_imaginary<B: Ranked<Point = Pair>>(rt: &impl Abort, alphabet: &B) {
 #[test]
 fn both_parts(rt: HostRuntime) {
     check_imaginary(&rt, &Grid::new(Pam::new(PamSize::Two)));
-    check_imaginary(&rt, &Table::new(PairPoints::origin()));
+    check_imaginary(&rt, &PairTable::origin());
 }

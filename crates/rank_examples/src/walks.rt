@@ -6,12 +6,11 @@ use pams::pam::{Pam, PamSize};
 use points::kind::Kind;
 use points::pair::Pair;
 use points::whole::Whole;
-use rankings::ranking::Ranking;
+use rankings::ranking::whole_ranking;
 use std::alloc::{AllocError, Global};
 use std::process::Abort;
 use std::test::Fail;
-use tables::list::{PairPoints, PointList, WholePoints};
-use tables::table::Table;
+use tables::table::{PairTable, WholeTable};
 
 // Both ends of the range, points, middles between points, and what lies beside them.
 const TARGETS: [i32; 17] = [
@@ -51,12 +50,12 @@ const AROUND: [Pair; 7] = [
 ];
 
 fn squared_offset(target: i32, gain: u32, part: i32) -> u64 {
-    let scaled = (gain as i64).wrapping_mul(part as i64);
-    let offset = (target as i64).wrapping_sub(scaled).unsigned_abs();
+    let scaled = i64::from(gain).wrapping_mul(i64::from(part));
+    let offset = i64::from(target).wrapping_sub(scaled).unsigned_abs();
     offset.wrapping_mul(offset)
 }
 
-// The amount and the index of each point, sorted.
+// The amount and the index of each point, sorted. An alphabet is asked for a point by its index, and has no slice of them.
 fn sorted<B: Alphabet>(
     heap: Global,
     alphabet: &B,
@@ -92,29 +91,19 @@ fn check_walk<B: Ranked>(
     Ok(())
 }
 
-fn check_whole<B: Ranked<Point = Whole>>(
+// Every gain, and every target with a real and an imaginary part out of the lists; a whole number takes the real part.
+fn check_walks<B: Ranked>(
     rt: &impl Abort,
     heap: Global,
     alphabet: &B,
+    re: &[i32],
+    im: &[i32],
 ) -> Result<(), Fail> {
     for gain in &GAINS {
-        for target in &TARGETS {
-            check_walk(rt, heap, alphabet, Whole { value: *target }, *gain)?;
-        }
-    }
-    Ok(())
-}
-
-fn check_pairs<B: Ranked<Point = Pair>>(
-    rt: &impl Abort,
-    heap: Global,
-    alphabet: &B,
-    targets: &[i32],
-) -> Result<(), Fail> {
-    for gain in &GAINS {
-        for re in targets {
-            for im in targets {
-                check_walk(rt, heap, alphabet, Pair { re: *re, im: *im }, *gain)?;
+        for re in re {
+            for im in im {
+                let target = <B::Point as Kind>::from_parts(*re, *im);
+                check_walk(rt, heap, alphabet, target, *gain)?;
             }
         }
     }
@@ -124,7 +113,7 @@ fn check_pairs<B: Ranked<Point = Pair>>(
 #[test]
 fn pams(rt: HostRuntime) -> Result<(), Fail> {
     for size in &SIZES {
-        check_whole(&rt, rt.alloc(), &Pam::new(*size))?;
+        check_walks(&rt, rt.alloc(), &Pam::new(*size), &TARGETS, &[0])?;
     }
     Ok(())
 }
@@ -132,47 +121,57 @@ fn pams(rt: HostRuntime) -> Result<(), Fail> {
 #[test]
 fn grids(rt: HostRuntime) -> Result<(), Fail> {
     let heap = rt.alloc();
-    check_pairs(&rt, heap, &Grid::new(Pam::new(PamSize::Two)), &TARGETS)?;
-    check_pairs(&rt, heap, &Grid::new(Pam::new(PamSize::Four)), &TARGETS)?;
-    check_pairs(
+    check_walks(
         &rt,
         heap,
-        &Grid::new(Pam::new(PamSize::Eight)),
-        &[-1_048_576, -7, 0, 10, 4094],
+        &Grid::new(Pam::new(PamSize::Two)),
+        &TARGETS,
+        &TARGETS,
     )?;
-    check_pairs(
+    check_walks(
+        &rt,
+        heap,
+        &Grid::new(Pam::new(PamSize::Four)),
+        &TARGETS,
+        &TARGETS,
+    )?;
+    let few = [-1_048_576, -7, 0, 10, 4094];
+    check_walks(&rt, heap, &Grid::new(Pam::new(PamSize::Eight)), &few, &few)?;
+    let fewer = [1_048_576, 0, 21];
+    check_walks(
         &rt,
         heap,
         &Grid::new(Pam::new(PamSize::Sixteen)),
-        &[1_048_576, 0, 21],
+        &fewer,
+        &fewer,
     )
 }
 
 #[test]
 fn whole_tables(rt: HostRuntime) -> Result<(), Fail> {
-    let mut points = WholePoints::origin();
-    check_whole(&rt, rt.alloc(), &Table::new(points))?;
-    points.lend(&SCATTERED)?;
-    check_whole(&rt, rt.alloc(), &Table::new(points))?;
-    points.lend(&LONE)?;
-    check_whole(&rt, rt.alloc(), &Table::new(points))
+    let mut table = WholeTable::origin();
+    check_walks(&rt, rt.alloc(), &table, &TARGETS, &[0])?;
+    table.lend(&SCATTERED)?;
+    check_walks(&rt, rt.alloc(), &table, &TARGETS, &[0])?;
+    table.lend(&LONE)?;
+    check_walks(&rt, rt.alloc(), &table, &TARGETS, &[0])
 }
 
 #[test]
 fn pair_tables(rt: HostRuntime) -> Result<(), Fail> {
-    let mut points = PairPoints::origin();
-    check_pairs(&rt, rt.alloc(), &Table::new(points), &TARGETS)?;
-    points.lend(&AROUND)?;
-    check_pairs(&rt, rt.alloc(), &Table::new(points), &TARGETS)
+    let mut table = PairTable::origin();
+    check_walks(&rt, rt.alloc(), &table, &TARGETS, &TARGETS)?;
+    table.lend(&AROUND)?;
+    check_walks(&rt, rt.alloc(), &table, &TARGETS, &TARGETS)
 }
 
 #[test]
 fn grids_over_tables(rt: HostRuntime) -> Result<(), Fail> {
-    let mut points = WholePoints::origin();
-    points.lend(&SCATTERED)?;
-    check_pairs(&rt, rt.alloc(), &Grid::new(Table::new(points)), &TARGETS)?;
-    points.lend(&LONE)?;
-    check_pairs(&rt, rt.alloc(), &Grid::new(Table::new(points)), &TARGETS)
+    let mut table = WholeTable::origin();
+    table.lend(&SCATTERED)?;
+    check_walks(&rt, rt.alloc(), &Grid::new(table), &TARGETS, &TARGETS)?;
+    table.lend(&LONE)?;
+    check_walks(&rt, rt.alloc(), &Grid::new(table), &TARGETS, &TARGETS)
 }
 
 // Targets, gains, and the ranks of a PAM of size 4.
@@ -189,7 +188,7 @@ const FOUR: [(i32, u32, [usize; 4]); 6] = [
 fn ranks_of_a_pam(rt: HostRuntime) -> Result<(), Fail> {
     let pam = Pam::new(PamSize::Four);
     for (target, gain, ranks) in &FOUR {
-        let ranking = Ranking::of(&pam, Whole { value: *target }, *gain)?;
+        let ranking = whole_ranking(&pam, Whole { value: *target }, *gain)?;
         assert_eq!(rt; ranking.as_slice(), ranks.as_slice());
     }
     Ok(())

@@ -2,6 +2,7 @@
 use faults::alphabet::AlphabetFault;
 use std::alloc::AllocError;
 use std::io;
+use std::num::ParseIntError;
 
 #[derive(Debug, Drop)]
 pub enum BenchError {
@@ -12,6 +13,7 @@ pub enum BenchError {
     Arguments,
 }
 
+// By hand, since two of these forget what they are made of, which a derived `From` keeps.
 impl From<AlphabetFault> for BenchError {
     fn from(fault: AlphabetFault) -> BenchError {
         BenchError::Refused(fault)
@@ -27,5 +29,11 @@ impl From<AllocError> for BenchError {
 impl From<io::Error> for BenchError {
     fn from(error: io::Error) -> BenchError {
         BenchError::Output(error)
+    }
+}
+
+impl From<ParseIntError> for BenchError {
+    fn from(_error: ParseIntError) -> BenchError {
+        BenchError::Arguments
     }
 }

@@ -15,11 +15,10 @@ use pams::pam::{Pam, PamSize};
 use points::kind::Kind;
 use points::pair::Pair;
 use points::whole::Whole;
-use std::alloc::Global;
+use std::alloc::{AllocError, Global};
 use std::rt::Runtime;
 use std::time::Instant;
-use tables::list::{PairPoints, PointList, WholePoints};
-use tables::table::Table;
+use tables::table::{PairTable, WholeTable};
 
 mod ask;
 mod draw;
@@ -48,23 +47,22 @@ fn run(rt: &HostRuntime) -> Result<(), BenchError> {
         work(rt, task, Family::Pam, &pam)?;
         work(rt, task, Family::Grid, &grid)?;
         let wholes = points(rt.alloc(), &pam)?;
-        let mut list = WholePoints::origin();
-        list.lend(wholes.as_slice())?;
-        work(rt, task, Family::WholeTable, &Table::new(list))?;
+        let table = WholeTable::try_from(wholes.as_slice())?;
+        work(rt, task, Family::WholeTable, &table)?;
         let pairs = points(rt.alloc(), &grid)?;
-        let mut list = PairPoints::origin();
-        list.lend(pairs.as_slice())?;
-        work(rt, task, Family::PairTable, &Table::new(list))?;
+        let table = PairTable::try_from(pairs.as_slice())?;
+        work(rt, task, Family::PairTable, &table)?;
     }
     Ok(())
 }
 
+// An alphabet is asked for a point by its index, and has no slice of them.
 fn points<B: Alphabet>(heap: Global, alphabet: &B) -> Result<Vec<B::Point>, BenchError> {
     let mut points = Vec::new(heap);
     for index in 0..alphabet.size() {
-        if points.push(alphabet.point(index)?).is_err() {
-            return Err(BenchError::Memory);
-        }
+        points
+            .push(alphabet.point(index)?)
+            .map_err(AllocError::from)?;
     }
     Ok(points)
 }
@@ -75,18 +73,18 @@ fn work<B: Ranked>(
     family: Family,
     alphabet: &B,
 ) -> Result<(), BenchError> {
-    let name = family.name();
     let points = alphabet.size();
+    // what the arguments ask for, once for each alphabet
     match task {
         Task::Digests => {
             let sum = digest(alphabet, RANKINGS)?;
-            println!(rt; "{name} {points}: {RANKINGS} rankings, digest {sum}")?;
+            println!(rt; "{family} {points}: {RANKINGS} rankings, digest {sum}")?;
         }
         Task::Times => {
             let nothing = nanoseconds(rt, Question::Nothing, alphabet)?;
             let first = nanoseconds(rt, Question::First, alphabet)?.saturating_sub(nothing);
             let next = nanoseconds(rt, Question::Next, alphabet)?.saturating_sub(nothing);
-            println!(rt; "{name} {points}: first {first} ns, next {next} ns")?;
+            println!(rt; "{family} {points}: first {first} ns, next {next} ns")?;
         }
         Task::Ask {
             question,
@@ -96,7 +94,7 @@ fn work<B: Ranked>(
         } => {
             if family == wanted && points == size {
                 let sum = ask(question, alphabet, times)?;
-                println!(rt; "{name} {points}: sum {sum}")?;
+                println!(rt; "{family} {points}: sum {sum}")?;
             }
         }
     }
@@ -112,8 +110,9 @@ fn nanoseconds<B: Ranked>(
     let start = Instant::now(rt)?;
     let sum = ask(question, alphabet, TIMES)?;
     let elapsed = start.elapsed(rt)?.as_nanos();
+    // The sum is looked at, so that the questions are asked: the kit's `black_box` is the identity.
     if sum == u64::MAX {
         return Err(BenchError::Arguments);
     }
-    Ok(elapsed / TIMES as u128)
+    Ok(elapsed / u128::from(TIMES))
 }

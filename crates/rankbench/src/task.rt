@@ -1,8 +1,9 @@
 // What the arguments ask for.
 use crate::ask::Question;
 use crate::error::BenchError;
-use std::env;
 use std::rt::Runtime;
+use std::str::FromStr;
+use std::{env, fmt};
 
 // Alphabets that differ in size alone.
 #[derive(Clone, Copy, PartialEq, Eq)]
@@ -13,13 +14,27 @@ pub enum Family {
     PairTable,
 }
 
-impl Family {
-    pub fn name(self) -> &'static str {
-        match self {
+impl fmt::Display for Family {
+    fn fmt<W: fmt::Write>(&self, f: &mut fmt::Formatter<W>) -> fmt::Result {
+        f.write_str(match self {
             Family::Pam => "pam",
             Family::Grid => "grid",
             Family::WholeTable => "whole-table",
             Family::PairTable => "pair-table",
+        })
+    }
+}
+
+impl FromStr for Family {
+    type Err = BenchError;
+
+    fn from_str(word: &str) -> Result<Family, BenchError> {
+        match word {
+            "pam" => Ok(Family::Pam),
+            "grid" => Ok(Family::Grid),
+            "whole-table" => Ok(Family::WholeTable),
+            "pair-table" => Ok(Family::PairTable),
+            _ => Err(BenchError::Arguments),
         }
     }
 }
@@ -42,30 +57,16 @@ pub fn read_arguments(rt: &impl Runtime) -> Result<Task, BenchError> {
     let Some(word) = args.next() else {
         return Ok(Task::Digests);
     };
-    let question = match word.as_str() {
-        "times" => return Ok(Task::Times),
-        "nothing" => Question::Nothing,
-        "first" => Question::First,
-        "next" => Question::Next,
-        _ => return Err(BenchError::Arguments),
-    };
+    if word.as_str() == "times" {
+        return Ok(Task::Times);
+    }
     let (Some(family), Some(size), Some(times)) = (args.next(), args.next(), args.next()) else {
         return Err(BenchError::Arguments);
     };
-    let family = match family.as_str() {
-        "pam" => Family::Pam,
-        "grid" => Family::Grid,
-        "whole-table" => Family::WholeTable,
-        "pair-table" => Family::PairTable,
-        _ => return Err(BenchError::Arguments),
-    };
-    match (size.as_str().parse(), times.as_str().parse()) {
-        (Ok(size), Ok(times)) => Ok(Task::Ask {
-            question,
-            family,
-            size,
-            times,
-        }),
-        _ => Err(BenchError::Arguments),
-    }
+    Ok(Task::Ask {
+        question: word.as_str().parse()?,
+        family: family.as_str().parse()?,
+        size: size.as_str().parse()?,
+        times: times.as_str().parse()?,
+    })
 }
