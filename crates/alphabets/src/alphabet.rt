@@ -22,7 +22,8 @@ pub trait Alphabet {
     ghost lawful: { (a : Self) → Lawful Self.Point.Kind.shape (points a) };
 }
 
-// The point at an index, and the origin where the alphabet has none.
+// The point at an index, and the origin where the alphabet has none. That it is near is told, since its type serves other values
+// too.
 pub fn point_or_origin<B: Alphabet>(alphabet: &B, index: usize) -> B::Point
     ensures value { B.Point.Kind.meaning result ≡ slice_index_or (B.points alphabet.now) index origin }
     ensures near { Within 15 (B.Point.Kind.meaning result) }

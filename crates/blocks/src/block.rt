@@ -18,7 +18,7 @@ pub struct Block<K> {
 }
 
 impl<K: Kind> Block<K> {
-    // The block of these raw words, each with so many extra bits.
+    // The block of these raw words, each with so many extra bits: three arguments, as the rules name them.
     pub fn load(extra_bits: u8, channel: &[i32], received: &[i32]) -> Result<Block<K>, LoadFault>
         ensures answer { result_map_both (λ b. block_of K.shape b.words) (λ f. f) result
             ≡ load_answer K.shape extra_bits channel.now received.now }

@@ -48,7 +48,7 @@ impl<'a, B: Alphabet> Codebook<'a, B> {
     }
 
     // The target of a level, counted from 0: z_l less the r_lj·s_j of the levels above, whose indices
-    // are given from the next level on.
+    // are given from the next level on. How far it reaches is told, since its type serves other values too.
     pub fn target(&self, level: usize, above: &[usize]) -> B::Point
         requires { level + 1 + length above.now ≤ levels B.Point.Kind.shape }
         ensures value { B.Point.Kind.meaning result

@@ -19,7 +19,7 @@ pub struct Decision {
     pub distance: u64,
 }
 
-// From raw words to the nearest codeword of the block that they make; or the first refusal of the load.
+// From raw words, in the three arguments of a load, to the nearest codeword of the block that they make; or the first refusal.
 pub fn decide<B: Alphabet>(
     alphabet: &B,
     extra_bits: u8,
@@ -43,7 +43,7 @@ pub fn codeword_count<B: Alphabet>(alphabet: &B) -> usize
 }
 
 impl<'a, B: Alphabet> Codebook<'a, B> {
-    // The nearest codeword, the earlier one among equals.
+    // The nearest codeword, the earlier one among equals. Codewords go by number, and there is no list of them.
     pub fn nearest(&self) -> Decision
         ensures nearest { Nearest self.now.system self.now.points (levels B.Point.Kind.shape)
             result.codeword result.distance }

@@ -8,7 +8,8 @@ pub enum Layer {
     Log,
 }
 
-// The refusal's number, which the rules give it; the word or point that it is about, counted from 0, or 0; and its layer.
+// The refusal's number and its place, which the rules give it: the word or point that it is about, counted from 0, or else 0; and
+// its layer.
 #[derive(Clone, Copy, PartialEq, Eq, Debug)]
 pub struct Report {
     pub number: u8,

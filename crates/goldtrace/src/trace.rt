@@ -33,7 +33,8 @@ fn print_list(rt: &impl Print, name: &str, bits: ExtraBits, words: &[i32]) -> io
     println!(rt; "")
 }
 
-// The levels of a block, from the last to the first. A block is asked for a level by its number, and has no slice of them.
+// The levels of a block, from the last to the first. A block is asked for a level by its number, and
+// a level for its entries, and neither has a slice of them.
 pub fn print_levels(rt: &impl Print, block: &BlockWords) -> io::Result<()> {
     for level in (0..Pair::LEVELS).rev() {
         print_level(rt, block, level)?;

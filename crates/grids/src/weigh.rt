@@ -43,7 +43,7 @@ fn least_key(re: &[u64], im: &[u64], floor: u64) -> u64
     least
 }
 
-// The same with one row more, which begins at the index `start`.
+// The same with one row more, which begins at the index `start`. A table weighs points in a loop of its own.
 fn least_in_row(row: u64, start: usize, im: &[u64], floor: u64, least: u64) -> u64
     requires index { start + length im.now ≤ 256 }
     requires amounts { (j : ℕ) → j < length im.now → row + slice_index im.now j < 2 ^ 42 }

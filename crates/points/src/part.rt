@@ -1,4 +1,4 @@
-// Products and squares of single parts.
+// Products and squares of single parts, which are numbers: the limit of each is asked here.
 ghost use Rattle.std.specs.Prelude.{◌≡◌, ◌^◌, ◌<◌, ◌≤◌, pos, ◌-ℤ◌, ◌*ℤ◌, unsigned_abs};
 ghost use Rattle.points.specs.Points.{square};
 

@@ -79,7 +79,7 @@ fn pair(number: usize) -> Pair {
     }
 }
 
-// So many pairs, by number, with the one at some index replaced.
+// So many pairs, by number, of which there is no list yet, with the one at some index replaced.
 fn pairs(heap: Global, count: usize, index: usize, other: Pair) -> Result<Vec<Pair>, AllocError> {
     let mut points = Vec::new(heap);
     for number in 0..count {

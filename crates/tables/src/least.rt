@@ -1,4 +1,5 @@
-// The least key among points: each is looked at once.
+// The least key among points: each is looked at once. A grid adds up amounts in a loop of its own: a closure for either would say
+// no less.
 ghost use Rattle.std.specs.Prelude.{◌≡◌, map, length};
 ghost use Rattle.alphabets.specs.Alphabets.{Lawful};
 ghost use Rattle.alphabets.specs.Questions.{amounts};

@@ -1,4 +1,5 @@
 // The entries of a block, by level counted from 0: a level is an index here, below the levels of its kind as of a slice.
+// What each entry keeps is told with it, since its type serves other values too.
 ghost use Rattle.std.specs.Prelude.{◌≡◌, ℕ, ◌+◌, ◌-◌, ◌<◌, ◌≤◌, [], pos, slice_index_or};
 ghost use Rattle.points.specs.Points.{Shape, Within, origin, real, levels};
 ghost use Rattle.blocks.specs.Blocks.{row_of, block_of};
