@@ -28,7 +28,7 @@ pub fn point_or_origin<B: Alphabet>(alphabet: &B, index: usize) -> B::Point
     ensures value { B.Point.Kind.meaning result ≡ slice_index_or (B.points alphabet.now) index origin }
     ensures near { Within 15 (B.Point.Kind.meaning result) }
 {
-    // By `unwrap_or` a codeword of the exhaustive search takes 719 instructions, by the `match` 642; the older form took 626.
+    // A `match`, by which each codeword that `nearest` looks at takes 642 instructions; by `unwrap_or` it takes 719.
     match alphabet.point(index) {
         Ok(point) => point,
         Err(_) => <B::Point as Kind>::ORIGIN,

@@ -8,13 +8,17 @@ use Rattle.points.specs.Points.{Gaussian, origin, Within, whole}
 use Rattle.alphabets.specs.Alphabets.{Lawful}
 use Rattle.pams.specs.Pams.{pam_size, pam_point, pam_points}
 use Rattle.pams.specs.declared.pam.PamSize.{PamSize}
+use Rattle.pams.specs.declared.pam.PamSize.TheVariants.{Two, Four, Eight, Sixteen}
 
 pub record Sized (n : ℕ) : Type 0 where
   pub some : 0 < n
   pub few : n ≤ 16
 
 pub sized : (s : PamSize) → Sized (pam_size s)
-sized s = record { some = grind arith; few = grind arith }
+sized Two = record { some = omega arith; few = omega arith }
+sized Four = record { some = omega arith; few = omega arith }
+sized Eight = record { some = omega arith; few = omega arith }
+sized Sixteen = record { some = omega arith; few = omega arith }
 
 pub pam_length : (n : ℕ) → length (pam_points n) ≡ n
 unfolding pam_points

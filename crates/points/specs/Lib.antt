@@ -1,2 +1,3 @@
 pub mod Points
 pub mod Texts
+pub mod SameLemmas

@@ -2,7 +2,8 @@
 ghost use Rattle.points.specs.Points.{gaussian, pair as pair_shape};
 ghost use Rattle.std.specs.Prelude.{pos, Some};
 ghost use Rattle.points.specs.Texts.{pair_text};
-ghost use Rattle.std.proofs.Common.{rules, refl};
+ghost use Rattle.points.specs.SameLemmas.{part_same};
+ghost use Rattle.std.proofs.Common.{refl, ◌&&◌};
 
 use crate::kind::Kind;
 use crate::part::{product, squared_offset};
@@ -35,11 +36,11 @@ impl Kind for Pair {
 
     const MOST_POINTS: usize = 256;
 
-    ghost own = { Prim.search rules };
+    ghost own = { λ p. refl };
 
-    ghost faithful = { Prim.search rules };
+    ghost faithful = { λ _ _ same i. record { re = (same i).re; im = (same i).im } };
 
-    ghost tells = { Prim.search rules };
+    ghost tells = { λ p q i. part_same p.re q.re i && part_same p.im q.im i };
 
     ghost at_origin = { refl };
 

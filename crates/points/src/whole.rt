@@ -1,7 +1,8 @@
 // Whole numbers as points: blocks of eight levels.
 ghost use Rattle.points.specs.Points.{real as real_point, whole as whole_shape};
 ghost use Rattle.std.specs.Prelude.{pos};
-ghost use Rattle.std.proofs.Common.{rules, refl};
+ghost use Rattle.points.specs.SameLemmas.{real_same};
+ghost use Rattle.std.proofs.Common.{refl};
 
 use crate::kind::Kind;
 use crate::part::{product, squared_offset};
@@ -32,11 +33,11 @@ impl Kind for Whole {
 
     const MOST_POINTS: usize = 16;
 
-    ghost own = { Prim.search rules };
+    ghost own = { λ p. refl };
 
-    ghost faithful = { Prim.search rules };
+    ghost faithful = { λ _ _ same i. record { value = (same i).re } };
 
-    ghost tells = { Prim.search rules };
+    ghost tells = { λ p q. real_same p.value q.value };
 
     ghost at_origin = { refl };
 
