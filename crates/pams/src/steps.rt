@@ -9,7 +9,8 @@ ghost use Rattle.pams.specs.Steps.{HalfSteps};
 use alphabets::question::Question;
 use points::whole::Whole;
 
-// How many points there are is a number here and below, which the steps divide and compare. Neighbours are two gains apart. At a gain of 0 all points are equally near, as if the target stood at the first.
+// Neighbours are two gains apart. At a gain of 0 all points are equally near, as if the target stood at the first. How many
+// points there are is a number here and below, which the steps divide and compare.
 pub fn half_steps(size: usize, question: &Question<Whole>) -> usize
     requires some { 0 < size }
     requires few { size ≤ 16 }

@@ -2,7 +2,8 @@
 ghost use Rattle.std.specs.Prelude.{◌≡◌, ◌^◌, ◌<◌};
 ghost use Rattle.ranks.specs.Keys.{key as key_of, lesser as lesser_of, index_of as index_in_key, KeyOrder, KeyIndex};
 
-// Above every key. As an `Option<u64>` the running least takes the next of 16 whole points to 417 instructions: C takes 404, this 320.
+// Above every key. As an `Option<u64>` the running least takes the next of 16 whole points to 417 instructions: C takes 404,
+// this 320.
 pub const NO_KEY: u64 = u64::MAX;
 
 // The amount, and below it the index: numbers to whoever asks, each with its limit here.
