@@ -1,3 +1,4 @@
 pub mod Alphabets
 pub mod Questions
 pub mod Padding
+pub mod Lists

@@ -28,9 +28,9 @@ pub fn point_or_origin<B: Alphabet>(alphabet: &B, index: usize) -> B::Point
     ensures value { B.Point.Kind.meaning result ≡ slice_index_or (B.points alphabet.now) index origin }
     ensures near { Within 15 (B.Point.Kind.meaning result) }
 {
-    // A `match`, by which each codeword that `nearest` looks at takes 642 instructions; by `unwrap_or` it takes 719.
+    // A `match`: by `unwrap_or` each codeword that `nearest` looks at took 12 in a hundred more instructions.
     match alphabet.point(index) {
         Ok(point) => point,
-        Err(_) => <B::Point as Kind>::ORIGIN,
+        Err(_) => <B::Point as Kind>::from_parts(0, 0),
     }
 }

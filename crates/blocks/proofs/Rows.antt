@@ -25,7 +25,7 @@ pub levels_few : (sh : Shape) → levels sh ≤ 8
 levels_few whole = omega arith
 levels_few pair = omega arith
 
-values_same : (sh : Shape) (n i j : ℕ) (xs ys : List ℤ) → ((k : ℕ) → k < parts sh * n → get_or xs (i + k) (pos 0) ≡ get_or ys (j + k) (pos 0)) → values sh n i xs ≡ values sh n j ys
+pub values_same : (sh : Shape) (n i j : ℕ) (xs ys : List ℤ) → ((k : ℕ) → k < parts sh * n → get_or xs (i + k) (pos 0) ≡ get_or ys (j + k) (pos 0)) → values sh n i xs ≡ values sh n j ys
 values_same sh zero i j xs ys h = refl
 values_same sh (suc n) i j xs ys h = ap₂ ◌∷◌ (first sh h) (values_same sh n (i + parts sh) (j + parts sh) xs ys (rest sh h))
   where

@@ -15,7 +15,7 @@ two_steps : (a d p q : ℤ) → q ≡ pos 0 → ((a -ℤ d) -ℤ p ≡ a -ℤ ((
 two_steps a d p q none = (omega (arith, ints), omega (arith, ints))
 
 -- the amount at a level's target is the level's part of the distance
-amount_is : (z s : Gaussian) (g : ℕ) (row ss : List Gaussian) → 0 < length row → real (pos g) ≡ get_or row 0 origin → amount (minus z (dot (drop 1 row) ss)) g s ≡ norm (minus z (dot row (s ∷ ss)))
+pub amount_is : (z s : Gaussian) (g : ℕ) (row ss : List Gaussian) → 0 < length row → real (pos g) ≡ get_or row 0 origin → amount (minus z (dot (drop 1 row) ss)) g s ≡ norm (minus z (dot row (s ∷ ss)))
 amount_is z s g [] ss h e = absurd (omega (arith, h))
 amount_is z s g (r ∷ rs) ss h e =
     let d = dot rs ss in

@@ -21,7 +21,7 @@ less_nothing a = omega (arith, ints)
 minus_plus : (u p q : Gaussian) → minus u (plus p q) ≡ minus (minus u p) q
 minus_plus u p q = λ i. gaussian (shift u.re p.re q.re i) (shift u.im p.im q.im i)
 
-minus_origin : (u : Gaussian) → minus u origin ≡ u
+pub minus_origin : (u : Gaussian) → minus u origin ≡ u
 minus_origin u = λ i. gaussian (less_nothing u.re i) (less_nothing u.im i)
 
 pub length_values : (sh : Shape) (n i : ℕ) (ws : List ℤ) → length (values sh n i ws) ≡ n
@@ -29,7 +29,7 @@ length_values sh zero i ws = refl
 length_values sh (suc n) i ws = ap suc (length_values sh n (i + parts sh) ws)
 
 -- how far one entry and one point take a target
-minus_near : (b c : ℕ) (u r s : Gaussian) → b + 61440 ≤ c → Within b u → Within 2048 r → Within 15 s → Within c (minus u (times r s))
+pub minus_near : (b c : ℕ) (u r s : Gaussian) → b + 61440 ≤ c → Within b u → Within 2048 r → Within 15 s → Within c (minus u (times r s))
 minus_near b c u r s h near entry point =
     let reach = inside_within pair (b + 61440) (minus u (times r s)) (minus_inside pair b 61440 u (times r s) (within_inside b u near) (times_inside pair r s (within_inside 2048 r entry) (within_inside 15 s point))) in
     record { re = omega (arith, reach.re); im = omega (arith, reach.im) }

@@ -34,17 +34,10 @@ impl<'a, B: Alphabet> Codebook<'a, B> {
           points = B.points alphabet.now;
         } }
     {
-        Codebook::of_words(alphabet, block.words())
-    }
-
-    // The same, for who holds a block's plain words: they are read as those of the alphabet's kind of point.
-    pub fn of_words(alphabet: &'a B, block: &'a BlockWords) -> Codebook<'a, B>
-        ensures { result ≡ record {
-          system = block_of B.Point.Kind.shape block.now;
-          points = B.points alphabet.now;
-        } }
-    {
-        Codebook { alphabet, block }
+        Codebook {
+            alphabet,
+            block: block.words(),
+        }
     }
 
     // The target of a level, counted from 0: z_l less the r_lj·s_j of the levels above, whose indices

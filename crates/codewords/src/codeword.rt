@@ -1,5 +1,6 @@
 // Codewords by the indices of their points, s_1 first.
 ghost use Rattle.std.specs.Prelude.{◌≡◌, ◌<◌, ◌≤◌};
+ghost use Rattle.alphabets.specs.Lists.{list_of};
 ghost use Rattle.codewords.specs.Numbers.{numbered};
 
 use alphabets::indices::Indices;
@@ -11,7 +12,7 @@ pub type Codeword = Indices<8>;
 pub(crate) fn codeword_numbered(size: usize, levels: usize, number: usize) -> Codeword
     requires some { 0 < size }
     requires few { levels ≤ 8 }
-    ensures { result ≡ numbered size levels number }
+    ensures { list_of result ≡ numbered size levels number }
 {
     let mut word = Codeword::new();
     let mut rest = number;

@@ -2,6 +2,7 @@
 ghost use Rattle.std.specs.Prelude.{◌≡◌, ◌^◌, ◌<◌, ◌≤◌, length};
 ghost use Rattle.points.specs.Points.{levels};
 ghost use Rattle.blocks.specs.Refusals.{load_fault, rounded_system};
+ghost use Rattle.alphabets.specs.Lists.{list_of};
 ghost use Rattle.codewords.specs.Distances.{distance_of};
 ghost use Rattle.codewords.specs.Numbers.{numbered};
 ghost use Rattle.codewords.specs.Nearest.{Nearest, Settled, Decided};
@@ -28,7 +29,7 @@ pub fn decide<B: Alphabet>(
 ) -> Result<Decision, LoadFault>
     ensures { Decided (load_fault B.Point.Kind.shape extra_bits channel.now received.now) result
         (λ d. Nearest (rounded_system B.Point.Kind.shape extra_bits channel.now received.now)
-        (B.points alphabet.now) (levels B.Point.Kind.shape) d.codeword d.distance) }
+        (B.points alphabet.now) (levels B.Point.Kind.shape) (list_of d.codeword) d.distance) }
 {
     let block = Block::<B::Point>::load(extra_bits, channel, received)?;
     Ok(Codebook::new(alphabet, &block).nearest())
@@ -46,12 +47,13 @@ impl<'a, B: Alphabet> Codebook<'a, B> {
     // The nearest codeword, the earlier one among equals. Codewords go by number, and there is no list of them.
     pub fn nearest(&self) -> Decision
         ensures nearest { Nearest self.now.system self.now.points (levels B.Point.Kind.shape)
-            result.codeword result.distance }
+            (list_of result.codeword) result.distance }
         ensures settled { Settled }
     {
-        let mut best = self.decision(0);
+        let size = self.alphabet.size();
+        let mut best = self.decision(size, 0);
         for number in 1..codeword_count(self.alphabet) {
-            let decision = self.decision(number);
+            let decision = self.decision(size, number);
             if decision.distance < best.distance {
                 best = decision;
             }
@@ -59,15 +61,19 @@ impl<'a, B: Alphabet> Codebook<'a, B> {
         best
     }
 
-    // The codeword of this number, and its distance.
-    fn decision(&self, number: usize) -> Decision
-        ensures codeword { result.codeword
+    // The codeword of this number, and its distance. The size is handed in, so that an alphabet that takes long to tell it is not
+    // asked for each codeword.
+    #[inline(always)]
+    fn decision(&self, size: usize, number: usize) -> Decision
+        requires size { size ≡ length self.now.points }
+        requires some { 0 < size }
+        ensures codeword { list_of result.codeword
             ≡ numbered (length self.now.points) (levels B.Point.Kind.shape) number }
         ensures distance { result.distance
-            ≡ distance_of self.now.system self.now.points result.codeword }
+            ≡ distance_of self.now.system self.now.points (list_of result.codeword) }
         ensures bound { result.distance < 2 ^ 40 }
     {
-        let codeword = codeword_numbered(self.alphabet.size(), <B::Point as Kind>::LEVELS, number);
+        let codeword = codeword_numbered(size, <B::Point as Kind>::LEVELS, number);
         let distance = self.word_distance(codeword.as_slice());
         Decision { codeword, distance }
     }

@@ -5,3 +5,4 @@ pub mod codebook;
 pub mod codeword;
 pub mod distance;
 pub mod exhaustive;
+pub mod target;

@@ -9,3 +9,5 @@ mod nearest;
 mod points_of_alphabets;
 #[cfg(test)]
 mod rounding;
+#[cfg(test)]
+mod targets;

@@ -1,9 +1,9 @@
 -- The amounts of a grid are sums of its sides' amounts; who weighs the sides ranks the grid.
-use Rattle.std.proofs.Common.{◌≡◌, ℕ, zero, suc, ◌+◌, ◌*◌, ◌/◌, ◌%◌, ◌<◌, true, false, List, ◌++◌, take, length, get_or, ℤ, pos, ◌-ℤ◌, ◌*ℤ◌, None, Ok, Option, sym, ap, ◌∙◌, subst, ap₂, mul-le-mul_right, mul-zero, arith}
+use Rattle.std.proofs.Common.{◌≡◌, ℕ, zero, suc, ◌+◌, ◌*◌, ◌/◌, ◌%◌, ◌<◌, ◌≤◌, true, false, List, ◌++◌, take, length, get_or, set, ℤ, pos, ◌-ℤ◌, ◌*ℤ◌, None, Ok, Option, sym, ap, ◌∙◌, subst, ap₂, mul-le-mul_right, mul-zero, arith, below_more}
 use lib.IntN.{*ℤ-zero}
 use Rattle.std.proofs.lemmas.Nat.{mul-le, mul-add-lt, div-mul-add, mod-mul-add, div_below, mod_below, div-add-mod'}
 use Rattle.std.proofs.lemmas.List.FromFn.{length-map-range_with_len, get_or-map-range_with_len}
-use Rattle.std.proofs.lemmas.List.{ext_get_or}
+use Rattle.std.proofs.lemmas.List.{ext_get_or, get_or-set_same, get_or-set_other}
 use Rattle.std.proofs.Math.Seq.{take-append_seam}
 use Rattle.std.proofs.lemmas.Bool.Decides.{nat_tests}
 use Rattle.points.specs.Points.{Gaussian, real, origin, square, amount, whole, pair}
@@ -116,6 +116,21 @@ module _ (rs is : List ℕ) (s : Sides rs is) where
   next_among k b floor least e h =
       least_next (sums rs is) keyed (length rs * length is) k least (sym (sums_length rs is)) b
       (subst (λ (f : ℕ). Least (sums rs is) f (length rs * length is) least) (e ∙ ap (λ (a : ℕ). key a k + 1) (sym (sums_place rs is k b))) h)
+
+-- ---- weighing a side
+
+-- the first i of ws are amounts
+abbrev pub Weighed : List Gaussian → Gaussian → ℕ → List ℕ → ℕ → Type 0
+Weighed ps u r ws i = (k : ℕ) → k < i → get_or ws k 0 ≡ get_or (amounts ps u r) k 0
+
+module _ (ps : List Gaussian) (u : Gaussian) (r : ℕ) (ws : List ℕ) {i : ℕ} (size : length ws ≡ length ps) (weighed : Weighed ps u r ws i) where
+  pub one_weighed : {a : ℕ} {s : Gaussian} → i < length ps → s ≡ get_or ps i origin → a ≡ amount u r s → Weighed ps u r (set ws i a) (i + 1)
+  one_weighed {a} h point value =
+      let here : a ≡ get_or (amounts ps u r) i 0 = rw (amounts_at ps u r i h, ← point) value in
+      below_more _ _ (λ k l. get_or-set_other ws i k a 0 (λ same. omega arith) ∙ weighed k l) (get_or-set_same ws i a 0 (omega arith) ∙ here)
+
+  pub all_weighed : length ps ≤ i → ws ≡ amounts ps u r
+  all_weighed h = ext_get_or 0 ws (amounts ps u r) (size ∙ sym (amounts_length ps u r)) (λ k l. weighed k (omega arith))
 
 -- ---- the next of a grid, from the weighed sides
 

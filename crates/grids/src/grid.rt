@@ -75,11 +75,15 @@ impl<P: Ranked<Point = Whole>> Ranked for Grid<P> {
             target: Whole { value: target.im },
             gain,
         };
-        // Arrays in place: by an `ArrayVec` for each side a question at 4 points takes 404 instructions, by these 200; C takes 172.
-        let mut rows = [0; 16];
-        weigh(&self.side, &re, &mut rows[..side]);
-        let mut columns = [0; 16];
-        weigh(&self.side, &im, &mut columns[..side]);
+        // Arrays in place: by an `ArrayVec` for each side a question at 4 points takes 404 instructions, by these 183; C takes 172.
+        let (mut rows, mut columns) = ([0; 16], [0; 16]);
+        weigh(
+            &self.side,
+            &re,
+            &im,
+            &mut rows[..side],
+            &mut columns[..side],
+        );
         Ok(next_sum(&rows[..side], &columns[..side], index))
     }
 }

@@ -11,13 +11,24 @@ use alphabets::question::Question;
 use points::whole::Whole;
 use ranks::key::{NO_KEY, index_of, lesser, rank_key};
 
-// Writes the amount of each of a side's points.
-pub fn weigh<P: Alphabet<Point = Whole>>(side: &P, question: &Question<Whole>, amounts: &mut [u64])
-    requires { length amounts.old ≡ length (P.Alphabet.points side.now) }
-    ensures { amounts.new ≡ amounts_of (P.Alphabet.points side.now) (real question.now.target.value) question.now.gain }
+// Writes the amounts of a side's points, around the real and around the imaginary part. Each point is asked for once, however long
+// the side takes to tell it.
+pub fn weigh<P: Alphabet<Point = Whole>>(
+    side: &P,
+    re: &Question<Whole>,
+    im: &Question<Whole>,
+    rows: &mut [u64],
+    columns: &mut [u64],
+)
+    requires rows { length rows.old ≡ length (P.Alphabet.points side.now) }
+    requires columns { length columns.old ≡ length (P.Alphabet.points side.now) }
+    ensures rows { rows.new ≡ amounts_of (P.Alphabet.points side.now) (real re.now.target.value) re.now.gain }
+    ensures columns { columns.new ≡ amounts_of (P.Alphabet.points side.now) (real im.now.target.value) im.now.gain }
 {
-    for (index, amount) in amounts.iter_mut().enumerate() {
-        *amount = question.amount(point_or_origin(side, index));
+    for (index, row) in rows.iter_mut().enumerate() {
+        let point = point_or_origin(side, index);
+        *row = re.amount(point);
+        columns[index] = im.amount(point);
     }
 }
 

@@ -1,5 +1,5 @@
 -- How far sums and products of whole numbers reach.
-use Rattle.std.proofs.Common.{◌≡◌, ℕ, ◌+◌, ◌*◌, ◌≤◌, ℤ, pos, ◌+ℤ◌, ◌-ℤ◌, ◌*ℤ◌, nat_abs, refl, arith, w32, to_z, of_z}
+use Rattle.std.proofs.Common.{◌≡◌, ℕ, ◌+◌, ◌*◌, ◌≤◌, ℤ, pos, ◌+ℤ◌, ◌-ℤ◌, ◌*ℤ◌, neg_ℤ, nat_abs, refl, arith, w32, to_z, of_z}
 use lib.IntN.{*ℤ-zero, zero-*ℤ}
 use Rattle.std.proofs.lemmas.Int.{ints, to_z-of_z, fits_signed_from_abs, unsigned_abs-mul}
 use Rattle.std.proofs.lemmas.Nat.{mul-le}
@@ -7,6 +7,15 @@ use Rattle.points.specs.Points.{square}
 
 pub nat_abs_add : (a b : ℤ) → nat_abs (a +ℤ b) ≤ nat_abs a + nat_abs b
 nat_abs_add a b = omega (arith, ints)
+
+pub nat_abs_sub : (a b : ℤ) → nat_abs (a -ℤ b) ≤ nat_abs a + nat_abs b
+nat_abs_sub a b = omega (arith, ints)
+
+pub nat_abs_neg : (z : ℤ) → nat_abs (neg_ℤ z) ≡ nat_abs z
+nat_abs_neg z = omega (arith, ints)
+
+pub nat_abs_mul : (a b : ℤ) → nat_abs (a *ℤ b) ≡ nat_abs a * nat_abs b
+nat_abs_mul a b = unsigned_abs-mul a b
 
 pub product_le : (r s : ℤ) (m n : ℕ) → nat_abs r ≤ m → nat_abs s ≤ n → nat_abs (r *ℤ s) ≤ m * n
 product_le r s m n h k = rw unsigned_abs-mul (mul-le (nat_abs r) (nat_abs s) m n h k)

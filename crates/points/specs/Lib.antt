@@ -1,3 +1,2 @@
 pub mod Points
 pub mod Texts
-pub mod SameLemmas

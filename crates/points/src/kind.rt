@@ -1,34 +1,21 @@
 // The kind of a point: what targets and amounts need of it.
 ghost use Rattle.std.specs.Prelude.{◌≡◌, ℕ, ◌+◌, ◌*◌, ◌^◌, ◌<◌, ◌≤◌, [], ◌∷◌, map, length};
-ghost use Rattle.points.specs.Points.{Gaussian, gaussian, minus, times, amount, Within, Shape, project, levels, parts, size_limit, value_at, same, origin};
+ghost use Rattle.points.specs.Points.{Gaussian, gaussian, minus, times, amount, Within, Shape, project, levels, parts, value_at, origin};
 
-pub trait Kind: Copy + Eq {
+pub trait Kind: Copy {
     ghost shape: { Shape };
 
     ghost meaning: { Self → Gaussian };
 
-    ghost ORIGIN: { Self };
-
     ghost LEVELS: { ℕ };
 
     ghost PARTS: { ℕ };
-
-    ghost MOST_POINTS: { ℕ };
-
-    const ORIGIN: Self;
 
     // how many levels a block of this kind has
     const LEVELS: usize;
 
     // how many words a channel or received value takes
     const PARTS: usize;
-
-    // how many points an alphabet of this kind has at most
-    const MOST_POINTS: usize;
-
-    // The list of the origin alone: `&[Self::ORIGIN]` is no constant of the program.
-    fn origin_alone() -> &'static [Self]
-        ensures { map meaning result.now ≡ origin ∷ [] };
 
     // The value with these parts; a whole number takes the first alone.
     fn from_parts(re: i32, im: i32) -> Self
@@ -67,15 +54,21 @@ pub trait Kind: Copy + Eq {
     // the meaning leaves nothing out
     ghost faithful: { (p q : Self) → meaning p ≡ meaning q → p ≡ q };
 
-    // `==` tells whether two values are the same
-    ghost tells: { (p q : Self) → Self.eq p q ≡ same (meaning p) (meaning q) };
-
-    ghost at_origin: { meaning ORIGIN ≡ origin };
-
     // the numbers are those of the shape
     ghost level_count: { LEVELS ≡ levels shape };
 
     ghost part_count: { PARTS ≡ parts shape };
+}
 
-    ghost most_points: { MOST_POINTS ≡ size_limit shape };
+// A kind whose point 0 is a constant of the program. It stands apart, so that no kind has to be one.
+pub trait Origin: Kind {
+    ghost ORIGIN: { Self };
+
+    const ORIGIN: Self;
+
+    // The list of the origin alone: `&[Self::ORIGIN]` is no constant of the program.
+    fn origin_alone() -> &'static [Self]
+        ensures { map Self.meaning result.now ≡ origin ∷ [] };
+
+    ghost at_origin: { Self.meaning ORIGIN ≡ origin };
 }

@@ -2,10 +2,9 @@
 ghost use Rattle.points.specs.Points.{gaussian, pair as pair_shape};
 ghost use Rattle.std.specs.Prelude.{pos, Some};
 ghost use Rattle.points.specs.Texts.{pair_text};
-ghost use Rattle.points.specs.SameLemmas.{part_same};
-ghost use Rattle.std.proofs.Common.{refl, ◌&&◌};
+ghost use Rattle.std.proofs.Common.{refl};
 
-use crate::kind::Kind;
+use crate::kind::{Kind, Origin};
 use crate::part::{product, squared_offset};
 use std::fmt;
 
@@ -20,39 +19,21 @@ impl Kind for Pair {
 
     ghost meaning = { λ p. gaussian p.re p.im };
 
-    ghost ORIGIN = { record { re = pos 0; im = pos 0 } };
-
     ghost LEVELS = { 4 };
 
     ghost PARTS = { 2 };
-
-    ghost MOST_POINTS = { 256 };
-
-    const ORIGIN: Pair = Pair { re: 0, im: 0 };
 
     const LEVELS: usize = 4;
 
     const PARTS: usize = 2;
 
-    const MOST_POINTS: usize = 256;
-
     ghost own = { λ p. refl };
 
     ghost faithful = { λ _ _ same i. record { re = (same i).re; im = (same i).im } };
 
-    ghost tells = { λ p q i. part_same p.re q.re i && part_same p.im q.im i };
-
-    ghost at_origin = { refl };
-
     ghost level_count = { refl };
 
     ghost part_count = { refl };
-
-    ghost most_points = { refl };
-
-    fn origin_alone() -> &'static [Pair] {
-        &[Pair { re: 0, im: 0 }]
-    }
 
     fn from_parts(re: i32, im: i32) -> Pair {
         Pair { re, im }
@@ -84,6 +65,18 @@ impl Kind for Pair {
 
     fn amount(self, gain: u32, point: Pair) -> u64 {
         squared_offset(self.re, gain, point.re) + squared_offset(self.im, gain, point.im)
+    }
+}
+
+impl Origin for Pair {
+    ghost ORIGIN = { record { re = pos 0; im = pos 0 } };
+
+    const ORIGIN: Pair = Pair { re: 0, im: 0 };
+
+    ghost at_origin = { refl };
+
+    fn origin_alone() -> &'static [Pair] {
+        &[Pair { re: 0, im: 0 }]
     }
 }
 

@@ -2,6 +2,8 @@
 #![tactic(auto)]
 
 #[cfg(test)]
+mod own_list;
+#[cfg(test)]
 mod refusals;
 #[cfg(test)]
 mod walks;

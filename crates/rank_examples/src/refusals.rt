@@ -5,13 +5,14 @@ use faults::alphabet::AlphabetFault;
 use faults::report::{Layer, Report};
 use grids::grid::Grid;
 use pams::pam::{Pam, PamSize};
-use points::kind::Kind;
+use points::kind::{Kind, Origin};
 use points::pair::Pair;
 use points::whole::Whole;
 use rankings::ranking::whole_ranking;
 use std::alloc::{AllocError, Global};
 use std::process::Abort;
 use std::test::Fail;
+use tables::list::{PointList, Points};
 use tables::table::{PairTable, Table, WholeTable};
 
 // A refusal's number and place, if there is one. As in the other examples: a library for both is longer than this.
@@ -47,11 +48,12 @@ const LISTS: [(&[i32], Option<(u8, usize)>); 12] = [
 ];
 
 // What a list is refused with; a refused list leaves the point 0 alone.
-fn check_list<K: Kind + 'static>(rt: &impl Abort, points: &[K], refusal: Option<(u8, usize)>) {
-    let mut table = Table::origin();
-    check_answer(rt, table.lend(points), refusal);
+fn check_list<K: Origin + 'static>(rt: &impl Abort, points: &[K], refusal: Option<(u8, usize)>) {
+    let mut list = Points::origin();
+    check_answer(rt, list.lend(points), refusal);
     let size = if refusal.is_none() { points.len() } else { 1 };
-    assert_eq!(rt; table.size(), size);
+    assert_eq!(rt; list.as_slice().len(), size);
+    assert_eq!(rt; Table::new(list).size(), size);
     check_answer(rt, Table::try_from(points), refusal);
 }
 

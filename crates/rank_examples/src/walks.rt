@@ -10,7 +10,8 @@ use rankings::ranking::whole_ranking;
 use std::alloc::{AllocError, Global};
 use std::process::Abort;
 use std::test::Fail;
-use tables::table::{PairTable, WholeTable};
+use tables::list::WholePoints;
+use tables::table::{PairTable, Table, WholeTable};
 
 // Both ends of the range, points, middles between points, and what lies beside them.
 const TARGETS: [i32; 17] = [
@@ -149,28 +150,26 @@ fn grids(rt: HostRuntime) -> Result<(), Fail> {
 
 #[test]
 fn whole_tables(rt: HostRuntime) -> Result<(), Fail> {
-    let mut table = WholeTable::origin();
-    check_walks(&rt, rt.alloc(), &table, &TARGETS, &[0])?;
-    table.lend(&SCATTERED)?;
-    check_walks(&rt, rt.alloc(), &table, &TARGETS, &[0])?;
-    table.lend(&LONE)?;
-    check_walks(&rt, rt.alloc(), &table, &TARGETS, &[0])
+    let mut list = WholePoints::origin();
+    check_walks(&rt, rt.alloc(), &Table::new(list), &TARGETS, &[0])?;
+    list.lend(&SCATTERED)?;
+    check_walks(&rt, rt.alloc(), &Table::new(list), &TARGETS, &[0])?;
+    list.lend(&LONE)?;
+    check_walks(&rt, rt.alloc(), &Table::new(list), &TARGETS, &[0])
 }
 
 #[test]
 fn pair_tables(rt: HostRuntime) -> Result<(), Fail> {
-    let mut table = PairTable::origin();
-    check_walks(&rt, rt.alloc(), &table, &TARGETS, &TARGETS)?;
-    table.lend(&AROUND)?;
+    check_walks(&rt, rt.alloc(), &PairTable::origin(), &TARGETS, &TARGETS)?;
+    let table = PairTable::try_from(&AROUND as &[Pair])?;
     check_walks(&rt, rt.alloc(), &table, &TARGETS, &TARGETS)
 }
 
 #[test]
 fn grids_over_tables(rt: HostRuntime) -> Result<(), Fail> {
-    let mut table = WholeTable::origin();
-    table.lend(&SCATTERED)?;
+    let table = WholeTable::try_from(&SCATTERED as &[Whole])?;
     check_walks(&rt, rt.alloc(), &Grid::new(table), &TARGETS, &TARGETS)?;
-    table.lend(&LONE)?;
+    let table = WholeTable::try_from(&LONE as &[Whole])?;
     check_walks(&rt, rt.alloc(), &Grid::new(table), &TARGETS, &TARGETS)
 }
 

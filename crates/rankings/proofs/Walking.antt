@@ -31,7 +31,7 @@ module _ {sh : Shape} {pts : List Gaussian} {u : Gaussian} {r : ℕ} (l : Lawful
     below : length ks < length pts
     below = omega (arith, here.0, ranking_length (amounts pts u r), amounts_length pts u r)
 
-    index_in : i < length pts
+    pub index_in : i < length pts
     index_in = omega (arith, placed_in (amounts pts u r) (length ks) i stands, amounts_length pts u r)
 
     pub room : length ks < 256

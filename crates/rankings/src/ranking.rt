@@ -1,8 +1,10 @@
 // All indices of an alphabet, in rank.
 ghost use Rattle.std.specs.Prelude.{◌≡◌};
+ghost use Rattle.std.specs.Result.{result_map_both};
 ghost use Rattle.faults.specs.Refusals.{answer};
 ghost use Rattle.ranks.specs.Ranks.{ranking, EachOnce, Ascends, Walked};
 ghost use Rattle.alphabets.specs.Questions.{rank_fault, amounts};
+ghost use Rattle.alphabets.specs.Lists.{list_of};
 
 use alphabets::indices::Indices;
 use alphabets::question::Ranked;
@@ -18,7 +20,7 @@ pub fn whole_ranking<B: Ranked>(
     target: B::Point,
     gain: u32,
 ) -> Result<Ranking, AlphabetFault>
-    ensures answer { result ≡ answer (rank_fault (B.Point.Kind.meaning target) gain) (ranking (amounts (B.Alphabet.points alphabet.now) (B.Point.Kind.meaning target) gain)) }
+    ensures answer { result_map_both list_of (λ f. f) result ≡ answer (rank_fault (B.Point.Kind.meaning target) gain) (ranking (amounts (B.Alphabet.points alphabet.now) (B.Point.Kind.meaning target) gain)) }
     ensures once { EachOnce }
     ensures ascends { Ascends }
     ensures walked { Walked }

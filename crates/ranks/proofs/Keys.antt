@@ -27,7 +27,7 @@ least_more ws floor n l k e h =
     }))
     (cases_lesser floor k l)
 
-key_index : KeyIndex
+pub key_index : KeyIndex
 key_index a i p q = grind (arith, nat_tests, mod-mul-add a 256 i q)
 
 -- keys and rank say the same

@@ -1,4 +1,1 @@
-pub mod Same
-pub mod Listed
-pub mod Checks
 pub mod TablesLemmas

@@ -1,5 +1,7 @@
--- What a table with the points pts answers to a question, by the least key of all n of them.
-use Rattle.std.specs.Prelude.{◌≡◌, ℕ, ◌+◌, ◌<◌, true, List, length, Ok}
+-- The points of a table, and its answers.
+use Rattle.std.specs.Prelude.{◌≡◌, ℕ, ◌+◌, ◌<◌, ◌≤◌, true, List, map, length, Ok, Err}
+use Rattle.std.proofs.lemmas.List.{length-map}
+use Rattle.faults.specs.declared.alphabet.AlphabetFault.TheVariants.{Index}
 use Rattle.std.proofs.Common.{refl, sym, ap, ◌∙◌, arith}
 use Rattle.std.proofs.lemmas.Bool.Decides.{nat_tests}
 use Rattle.std.specs.Option.{unwrap_or}
@@ -9,7 +11,23 @@ use Rattle.ranks.proofs.Keys.{Keyed, least_first, least_next}
 use Rattle.alphabets.specs.Alphabets.{Lawful, point_answer}
 use Rattle.alphabets.specs.Questions.{askable, amounts, first_answer, next_answer}
 use Rattle.alphabets.proofs.Asked.{told_point}
+use Rattle.tables.specs.Tables.{passes, table_points}
+use Rattle.tables.specs.Lists.{keeps_points}
 use Rattle.alphabets.proofs.Ranked.{asked, told_next, amounts_length, amounts_at, amounts_keyed}
+
+-- ---- a list ps that passed, as the table's list hs lends it
+
+module _ {K : Type 0} (sh : Shape) (m : K → Gaussian) (ps hs : List K) (list : ps ≡ hs) (kept : passes sh (map m ps) ≡ true) where
+  pub held : table_points sh (map m hs) ≡ map m ps
+  held = rw (← list) (keeps_points sh (map m ps) kept)
+
+  pub table_size : length ps ≡ length (table_points sh (map m hs))
+  table_size = sym (rw held (length-map ps m))
+
+  pub table_past : (u : Gaussian) (r i : ℕ) → askable u r ≡ true → length ps ≤ i → Err Index ≡ next_answer (table_points sh (map m hs)) u r i
+  table_past u r i ask h = let past : length (map m ps) ≤ i = omega (arith, length-map ps m) in rw held (grind (arith, nat_tests))
+
+-- ---- what a table with the points pts answers to a question, by the least key of all n of them
 
 module _ {sh : Shape} {pts : List Gaussian} (l : Lawful sh pts) (u : Gaussian) (r : ℕ) (ask : askable u r ≡ true) where
   keyed : Keyed (amounts pts u r)

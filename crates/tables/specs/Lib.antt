@@ -1,1 +1,5 @@
 pub mod Tables
+pub mod Same
+pub mod Listed
+pub mod Checks
+pub mod Lists

@@ -5,6 +5,8 @@
 --   points_fault pts n i   the first of these at the n indices from i on
 --   size_fault sh pts      no point, or more than the shape sh allows
 --   table_fault sh pts     the refusal of a list: of its size, or else the first of its points'
+--   passes sh pts          whether there is none
+--   table_points sh pts    the points of a table over the list pts: these, if they pass, and else the origin alone
 --
 -- What makes that the check of an alphabet, whatever the order in which it looks:
 --
@@ -12,7 +14,8 @@
 --   Fine pts i            no part of the point at index i is too large, and no point at a smaller index equals it
 --   Refusal sh pts f      what the fault f says of a list: all that is looked at before is as it must be, and this is not
 --   TellsFirst            a list is refused with the first fault: what it says holds
-use Rattle.std.specs.Prelude.{◌≡◌, ℕ, zero, suc, ◌+◌, ◌<◌, ◌≤◌, Bool, not, ◌||◌, ◌⊎◌, List, [], ◌∷◌, length, take, Some, None, Option, ◌==◌, ◌≢◌, nat_lt, slice_index_or}
+--   KeepsPoints           a table over a list that passes has the list's points
+use Rattle.std.specs.Prelude.{◌≡◌, ℕ, zero, suc, ◌+◌, ◌<◌, ◌≤◌, Bool, true, not, ◌||◌, ◌⊎◌, List, [], ◌∷◌, length, take, is_some, if◌then◌else◌, Some, None, Option, ◌==◌, ◌≢◌, nat_lt, slice_index_or}
 use Rattle.std.specs.List.{list_any}
 use Rattle.faults.specs.declared.alphabet.AlphabetFault.{AlphabetFault}
 use Rattle.faults.specs.declared.alphabet.AlphabetFault.TheVariants as fault
@@ -40,6 +43,12 @@ size_fault sh pts = when (length pts == 0 || nat_lt (size_limit sh) (length pts)
 unfoldable pub table_fault : Shape → List Gaussian → Option AlphabetFault
 table_fault sh pts = first_of (size_fault sh pts ∷ points_fault pts (length pts) 0 ∷ [])
 
+abbrev pub passes : Shape → List Gaussian → Bool
+passes sh pts = not (is_some (table_fault sh pts))
+
+unfoldable pub table_points : Shape → List Gaussian → List Gaussian
+table_points sh pts = if passes sh pts then pts else origin ∷ []
+
 abbrev pub AcceptsLawful : Type 0
 AcceptsLawful = (sh : Shape) (pts : List Gaussian) → ((i : ℕ) → i < length pts → project sh (slice_index_or pts i origin) ≡ slice_index_or pts i origin) → (table_fault sh pts ≡ None → Lawful sh pts) × (Lawful sh pts → table_fault sh pts ≡ None)
 
@@ -63,3 +72,6 @@ Refusal sh pts fault.Index = ⊥
 
 abbrev pub TellsFirst : Type 0
 TellsFirst = (sh : Shape) (pts : List Gaussian) (f : AlphabetFault) → table_fault sh pts ≡ Some f → Refusal sh pts f
+
+abbrev pub KeepsPoints : Type 0
+KeepsPoints = (sh : Shape) (pts : List Gaussian) → passes sh pts ≡ true → table_points sh pts ≡ pts

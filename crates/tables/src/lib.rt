@@ -3,4 +3,5 @@
 
 pub mod check;
 mod least;
+pub mod list;
 pub mod table;

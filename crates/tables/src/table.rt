@@ -1,108 +1,99 @@
-// A table: an alphabet over a list of points that the caller holds, and that passed the check.
-ghost use Rattle.std.specs.Prelude.{◌≡◌, ⊤, [], ◌∷◌, map, is_ok, if◌then◌else◌};
+// A table: an alphabet over a list of points that passed the check.
+ghost use Rattle.std.specs.Prelude.{◌≡◌, [], ◌∷◌, map};
 ghost use Rattle.std.specs.Result.{result_map_both};
 ghost use Rattle.faults.specs.Refusals.{answer};
 ghost use Rattle.points.specs.Points.{origin};
-ghost use Rattle.alphabets.specs.Alphabets.{Lawful};
-ghost use Rattle.tables.specs.Tables.{table_fault};
+ghost use Rattle.tables.specs.Tables.{table_fault, table_points, KeepsPoints};
+ghost use Rattle.tables.specs.Lists.{table_lawful};
 
-use crate::check::check;
 use crate::least::least_from;
+use crate::list::{PairPoints, PointList, Points, WholePoints};
 use alphabets::alphabet::Alphabet;
 use alphabets::question::{Question, Ranked};
 use faults::alphabet::AlphabetFault;
-use points::kind::Kind;
-use points::pair::Pair;
-use points::whole::Whole;
+use points::kind::{Kind, Origin};
 use ranks::key::{index_of, rank_key};
-use std::alloc::AllocError;
 
-pub struct Table<'a, K: Kind> {
-    points: &'a [K],
-    ghost lawful: { Lawful K.shape (map K.meaning points.now) },
+#[derive(Clone, Copy, Drop)]
+pub struct Table<L> {
+    list: L,
 }
 
-pub type WholeTable<'a> = Table<'a, Whole>;
+pub type WholeTable<'a> = Table<WholePoints<'a>>;
 
-pub type PairTable<'a> = Table<'a, Pair>;
+pub type PairTable<'a> = Table<PairPoints<'a>>;
 
-impl<'a, K: Kind + 'static> Table<'a, K> {
+impl<L> Table<L> {
+    // The list has passed its check, so there is nothing to refuse.
+    #[tactic(auto, using(crate::specs::Lists::keeps_points))]
+    pub fn new(list: L) -> Table<L>
+        ensures list { result.list ≡ list }
+        ensures points { KeepsPoints }
+    {
+        Table { list }
+    }
+}
+
+impl<'a, K: Origin + 'static> Table<Points<'a, K>> {
     // The point 0 alone.
-    pub fn origin() -> Table<'a, K>
-        ensures { map K.meaning result.points.now ≡ origin ∷ [] }
+    pub fn origin() -> Table<Points<'a, K>>
+        ensures { ⟦<Table<Points<'a, K>> as Alphabet>⟧.points result ≡ origin ∷ [] }
     {
-        Table {
-            points: K::origin_alone(),
-        }
+        Table::new(Points::origin())
     }
 }
 
-impl<'a, K: Kind> Table<'a, K> {
-    // Takes the list in place of the one that is held; a refusal keeps that.
-    pub fn lend(&mut self, points: &'a [K]) -> Result<(), AlphabetFault>
-        ensures answer { result ≡ answer (table_fault K.shape (map K.meaning points.now)) tt }
-        ensures list { self.new.points.now
-            ≡ (if is_ok result then points.now else self.old.points.now) }
-        ensures points { ⟦<Table<'a, K> as Alphabet>⟧.points self.new
-            ≡ map K.meaning self.new.points.now }
-    {
-        *self = Table::try_from(points)?;
-        Ok(())
-    }
-}
-
-impl<'a, K: Kind> TryFrom<&'a [K]> for Table<'a, K> {
+// The table over a lent list, or the list's refusal.
+impl<'a, K: Kind> TryFrom<&'a [K]> for Table<Points<'a, K>> {
     type Error = AlphabetFault;
 
     ghost try_from_gives = { λ list r.
-        result_map_both (λ t. t.points.now) (λ f. f) r
-        ≡ answer (table_fault K.shape (map K.meaning list.now)) list.now };
+        (result_map_both (λ t. t.list.points.now) (λ f. f) r
+        ≡ answer (table_fault K.shape (map K.meaning list.now)) list.now)
+        × (result_map_both (λ t. ⟦<Table<Points<'a, K>> as Alphabet>⟧.points t) (λ f. f) r
+        ≡ answer (table_fault K.shape (map K.meaning list.now)) (map K.meaning list.now)) };
 
-    fn try_from(points: &'a [K]) -> Result<Table<'a, K>, AlphabetFault> {
-        check(points)?;
-        Ok(Table { points })
+    fn try_from(points: &'a [K]) -> Result<Table<Points<'a, K>>, AlphabetFault> {
+        Ok(Table::new(Points::try_from(points)?))
     }
 }
 
-// By hand, since a derive is refused over a generic struct with a ghost field.
-impl<'a, K: Kind> Clone for Table<'a, K> {
-    ghost is_clone = { λ x y. y ≡ x };
+impl<L: PointList> Alphabet for Table<L> {
+    type Point = L::Point;
 
-    ghost is_infallible = { λ _. ⊤ };
+    ghost points = { λ t. table_points L.Point.Kind.shape (map L.Point.Kind.meaning (L.held t.list)) };
 
-    fn clone(&self) -> Result<Table<'a, K>, AllocError> {
-        Ok(*self)
-    }
-}
-
-impl<'a, K: Kind> Copy for Table<'a, K> {}
-
-impl<'a, K: Kind> Alphabet for Table<'a, K> {
-    type Point = K;
-
-    ghost points = { λ t. map K.meaning t.points.now };
-
-    ghost lawful = { λ t. t.lawful };
+    ghost lawful = { λ t. table_lawful L.Point.Kind.shape L.Point.Kind.meaning L.Point.Kind.own (L.held t.list) };
 
     fn size(&self) -> usize {
-        self.points.len()
+        self.list.as_slice().len()
     }
 
-    fn point(&self, index: usize) -> Result<K, AlphabetFault> {
-        self.points.get(index).copied().ok_or(AlphabetFault::Index)
+    fn point(&self, index: usize) -> Result<L::Point, AlphabetFault> {
+        let points = self.list.as_slice();
+        points.get(index).copied().ok_or(AlphabetFault::Index)
     }
 }
 
-impl<'a, K: Kind> Ranked for Table<'a, K> {
-    fn first(&self, target: K, gain: u32) -> Result<usize, AlphabetFault> {
+impl<L: PointList> Ranked for Table<L> {
+    fn first(&self, target: L::Point, gain: u32) -> Result<usize, AlphabetFault> {
         let question = Question::new(target, gain)?;
-        let least = least_from(self.points, &question, 0);
+        let least = least_from(self.list.as_slice(), &question, 0);
         Ok(index_of(least).unwrap_or(0))
     }
 
-    fn next(&self, target: K, gain: u32, index: usize) -> Result<Option<usize>, AlphabetFault> {
+    fn next(
+        &self,
+        target: L::Point,
+        gain: u32,
+        index: usize,
+    ) -> Result<Option<usize>, AlphabetFault> {
         let question = Question::new(target, gain)?;
-        let floor = rank_key(question.amount(self.point(index)?), index) + 1;
-        Ok(index_of(least_from(self.points, &question, floor)))
+        let points = self.list.as_slice();
+        if index >= points.len() {
+            return Err(AlphabetFault::Index);
+        }
+        let floor = rank_key(question.amount(points[index]), index) + 1;
+        Ok(index_of(least_from(points, &question, floor)))
     }
 }

@@ -1,24 +1,27 @@
-use Rattle.std.proofs.Common.{◌≡◌, get_or, sym, ap, ◌∙◌, arith, below_more}
-use Rattle.std.proofs.lemmas.List.{ext_get_or, get_or-set_same, get_or-set_other}
-use Rattle.points.specs.Points.{real, amount}
-use Rattle.alphabets.specs.Questions.{amounts as amounts_of}
-use Rattle.alphabets.proofs.Ranked.{amounts_length, amounts_at}
+use Rattle.std.proofs.Common.{◌∙◌, ◌<◌, ◌≤◌, length, arith}
+use Rattle.points.specs.Points.{real}
+use Rattle.grids.proofs.Weighing.{one_weighed, all_weighed}
 use Rattle.grids.proofs.weigh.weigh.Goals as goal
+
+pub loop-index-init : goal.loop-index-init
+loop-index-init g c = (λ k h. absurd (omega (arith, h)), λ k h. absurd (omega (arith, h)))
 
 pub loop-index-preserved : goal.loop-index-preserved
 loop-index-preserved g c =
     let ps = g.P.Alphabet.points c.args.side.now in
-    let u = real c.args.question.now.target.value in
-    let r = c.args.question.now.gain in
-    let i = c.loop-index.index in
-    let ws = c.loop-index.amounts in
-    let point = ap (amount u r) c.point_or_origin.ensures.value in
-    let here : c.amount.result ≡ get_or (amounts_of ps u r) i 0 = rw (amounts_at ps u r i (omega (arith, c.loop-index-test.true, c.requires)), ← point) c.amount.ensures.value in
-    below_more _ _ (λ k h. get_or-set_other ws i k c.amount.result 0 (λ same. omega arith) ∙ c.loop-index.invariant k h) (get_or-set_same ws i c.amount.result 0 (omega (arith, c.loop-index-test.true, c.loop-index.auto.amounts)) ∙ here)
+    let l = c.loop-index in
+    let point = c.point_or_origin-point.ensures.value in
+    let within : l.index < length ps = omega (arith, c.loop-index-test.true, c.requires.rows) in (
+      one_weighed ps (real c.args.re.now.target.value) c.args.re.now.gain l.rows (l.auto.rows ∙ c.requires.rows) l.invariant.0 within point c.amount.ensures.value,
+      one_weighed ps (real c.args.im.now.target.value) c.args.im.now.gain l.columns (l.auto.columns ∙ c.requires.columns) l.invariant.1 within point c.amount-in-loop-index.ensures.value,
+    )
 
 pub returns : goal.returns
 returns g c =
     let ps = g.P.Alphabet.points c.args.side.now in
-    let u = real c.args.question.now.target.value in
-    let r = c.args.question.now.gain in
-    ext_get_or 0 c.loop-index.amounts (amounts_of ps u r) (c.loop-index.auto.amounts ∙ c.requires ∙ sym (amounts_length ps u r)) (λ k h. c.loop-index.invariant k (omega (arith, h, c.loop-index-test.false, c.loop-index.auto.amounts)))
+    let l = c.loop-index in
+    let past : length ps ≤ l.index = omega (arith, c.loop-index-test.false, l.auto.rows, c.requires.rows) in
+    record {
+      rows = all_weighed ps (real c.args.re.now.target.value) c.args.re.now.gain l.rows (l.auto.rows ∙ c.requires.rows) l.invariant.0 past;
+      columns = all_weighed ps (real c.args.im.now.target.value) c.args.im.now.gain l.columns (l.auto.columns ∙ c.requires.columns) l.invariant.1 past;
+    }

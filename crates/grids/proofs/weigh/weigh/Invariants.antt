@@ -1,8 +1,9 @@
-use Rattle.std.proofs.Common.{◌≡◌, ℕ, ◌<◌, slice_index}
 use Rattle.points.specs.Points.{real}
-use Rattle.alphabets.specs.Questions.{amounts as amounts_of}
+use Rattle.grids.proofs.Weighing.{Weighed}
 use Rattle.grids.proofs.weigh.weigh.Given as goal
 
 -- the amounts that are written
 abbrev pub invariant-loop-index : goal.invariant-loop-index
-invariant-loop-index g l = (k : ℕ) → k < l.index → slice_index l.amounts k ≡ slice_index (amounts_of (g.P.Alphabet.points l.side) (real l.question.target.value) l.question.gain) k
+invariant-loop-index g l =
+    let ps = g.P.Alphabet.points l.side in
+    Weighed ps (real l.re.target.value) l.re.gain l.rows l.index × Weighed ps (real l.im.target.value) l.im.gain l.columns l.index

@@ -2,7 +2,7 @@ use Rattle.std.proofs.Common.{◌≡◌, map}
 use Rattle.alphabets.specs.Questions.{amounts}
 use Rattle.ranks.specs.Keys.{key_at}
 use Rattle.ranks.proofs.Keys.{least_more}
-use Rattle.tables.proofs.Listed.{near_at, amount_at}
+use Rattle.tables.specs.Listed.{near_at, amount_at}
 use Rattle.tables.proofs.least.least_from.Goals as goal
 
 pub amount-requires : goal.amount-requires

@@ -1,6 +1,5 @@
 -- What a table's check finds at a point, among several and in a list, and the turns of its loop.
-use Rattle.std.specs.Prelude.{◌≡◌, ℕ, zero, suc, ◌+◌, ◌-◌, ◌<◌, ◌≤◌, Bool, true, false, not, ◌||◌, ◌⊎◌, List, [], ◌∷◌, map, length, take, Some, None, Ok, Option, Decides, ◌==◌, ◌≢◌, nat_lt, slice_index_or, refl}
-use Rattle.std.specs.List.{list_any}
+use Rattle.std.specs.Prelude.{◌≡◌, ℕ, zero, suc, ◌+◌, ◌-◌, ◌<◌, ◌≤◌, true, false, not, ◌||◌, ◌⊎◌, List, [], ◌∷◌, map, length, take, Some, None, Ok, Option, Decides, ◌==◌, ◌≢◌, nat_lt, slice_index_or, refl}
 use Rattle.std.proofs.Common.{sym, subst, ap, ◌∙◌, inl, inr, ⊎_elim, arith}
 use Rattle.std.proofs.lemmas.List.{length-map, take-map}
 use Rattle.std.proofs.lemmas.Bool.{eqb-true, eqb-false, cases_Bool, cases_eq, cases_lt}
@@ -8,16 +7,16 @@ use Rattle.std.proofs.lemmas.Bool.Decides.{nat_tests, not_from_Decides}
 use Rattle.faults.specs.declared.alphabet.AlphabetFault.{AlphabetFault}
 use Rattle.faults.specs.declared.alphabet.AlphabetFault.TheVariants.{TableSize, Part, Repeated}
 use Rattle.faults.specs.Refusals.{when, or_else, first_of, answer}
-use Rattle.points.specs.Points.{Gaussian, origin, same, within, Within, Shape, size_limit}
+use Rattle.points.specs.Points.{Gaussian, origin, within, Within, Shape, size_limit}
 use Rattle.alphabets.specs.Alphabets.{Lawful}
 use Rattle.alphabets.proofs.Ranked.{within_told}
 use Rattle.tables.specs.Tables.{among, point_fault, points_fault, table_fault, AcceptsLawful, Fine, FineBelow, Refusal, TellsFirst}
-use Rattle.tables.proofs.Same.{among_tells, any_among}
-use Rattle.tables.proofs.Listed.{point_at}
+use Rattle.tables.specs.Same.{among_tells}
+use Rattle.tables.specs.Listed.{point_at}
 
 -- ---- the size
 
-size_refused : (sh : Shape) (pts : List Gaussian) → (length pts ≡ 0) ⊎ (size_limit sh < length pts) → table_fault sh pts ≡ Some TableSize
+pub size_refused : (sh : Shape) (pts : List Gaussian) → (length pts ≡ 0) ⊎ (size_limit sh < length pts) → table_fault sh pts ≡ Some TableSize
 unfolding table_fault
 size_refused sh pts h =
     let t : (length pts == 0 || nat_lt (size_limit sh) (length pts)) ≡ true = grind (arith, nat_tests) in
@@ -27,7 +26,7 @@ or_else_none : {F : Type 0} (f : Option F) → or_else f None ≡ f
 or_else_none (Some f) = refl
 or_else_none None = refl
 
-size_passed : (sh : Shape) (pts : List Gaussian) → (length pts ≢ 0) → length pts ≤ size_limit sh → table_fault sh pts ≡ points_fault pts (length pts) 0
+pub size_passed : (sh : Shape) (pts : List Gaussian) → (length pts ≢ 0) → length pts ≤ size_limit sh → table_fault sh pts ≡ points_fault pts (length pts) 0
 unfolding table_fault
 size_passed sh pts some few =
     let t : (length pts == 0 || nat_lt (size_limit sh) (length pts)) ≡ false = grind (arith, nat_tests) in
@@ -153,17 +152,17 @@ module _ {K : Type 0} (sh : Shape) (m : K → Gaussian) (xs : List K) where
       size_passed sh (map m xs) (λ z. eqb-false (length xs) 0 (sym some) (omega arith)) (omega arith) ∙ ap (λ (k : ℕ). points_fault (map m xs) k 0) l
 
 -- the turn at the index i: the fault f of the list is that of the points from i on
-module _ {K : Type 0} {eq : K → K → Bool} (m : K → Gaussian) (tells : (p q : K) → eq p q ≡ same (m p) (m q)) (xs : List K) (i : ℕ) {p : K} (h : i < length xs) (read : p ≡ slice_index_or xs i p) {f : Option AlphabetFault} (left : f ≡ points_fault (map m xs) (length xs - i) i) where
-  turn : f ≡ or_else (first_of (when (not (within 15 (m p))) (Part i) ∷ when (list_any (λ q. eq q p) (take i xs)) (Repeated i) ∷ [])) (points_fault (map m xs) (length xs - (i + 1)) (i + 1))
+module _ {K : Type 0} (m : K → Gaussian) (xs : List K) (i : ℕ) {p : K} (h : i < length xs) (read : p ≡ slice_index_or xs i p) {f : Option AlphabetFault} (left : f ≡ points_fault (map m xs) (length xs - i) i) where
+  turn : f ≡ or_else (first_of (when (not (within 15 (m p))) (Part i) ∷ when (among (m p) (map m (take i xs))) (Repeated i) ∷ [])) (points_fault (map m xs) (length xs - (i + 1)) (i + 1))
   turn =
       let e : length xs - i ≡ suc (length xs - (i + 1)) = omega arith in
-      left ∙ rw (e, point_at m xs i p h, ← read, take-map m i xs, any_among eq m tells p (take i xs)) refl
+      left ∙ rw (e, point_at m xs i p h, ← read, take-map m i xs) refl
 
   pub part_refused : false ≡ within 15 (m p) → f ≡ Some (Part i)
   part_refused far = turn ∙ rw (← far) refl
 
-  pub repeated_refused : true ≡ within 15 (m p) → true ≡ list_any (λ q. eq q p) (take i xs) → f ≡ Some (Repeated i)
+  pub repeated_refused : true ≡ within 15 (m p) → true ≡ among (m p) (map m (take i xs)) → f ≡ Some (Repeated i)
   repeated_refused near old = turn ∙ rw (← near, ← old) refl
 
-  pub point_passed : true ≡ within 15 (m p) → false ≡ list_any (λ q. eq q p) (take i xs) → f ≡ points_fault (map m xs) (length xs - (i + 1)) (i + 1)
+  pub point_passed : true ≡ within 15 (m p) → false ≡ among (m p) (map m (take i xs)) → f ≡ points_fault (map m xs) (length xs - (i + 1)) (i + 1)
   point_passed near new = turn ∙ rw (← near, ← new) refl

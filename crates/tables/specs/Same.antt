@@ -1,8 +1,7 @@
 -- Equal points: what the tests of two points and of a list of them tell.
-use Rattle.std.specs.Prelude.{◌≡◌, ℕ, ◌<◌, ◌≤◌, Bool, List, [], ◌∷◌, map, length, take, ℤ, pos, negsuc, Decides, ◌==◌, slice_index_or, refl}
-use Rattle.std.specs.List.{list_any}
-use Rattle.std.proofs.Common.{sym, ap, ◌∙◌, arith, get_or-take, length-take-le}
-use Rattle.std.proofs.lemmas.Bool.Decides.{Decides-eqb, Decides-and, Decides-like}
+use Rattle.std.specs.Prelude.{◌≡◌, ℕ, ◌<◌, ◌≤◌, suc, ◌+◌, Bool, ◌||◌, List, drop, map, length, take, ℤ, pos, negsuc, Decides, ◌==◌, slice_index_or}
+use Rattle.std.proofs.Common.{sym, ap, ◌∙◌, arith, get_or-take, length-take-le, add-one, drop-cons}
+use Rattle.std.proofs.lemmas.Bool.Decides.{Decides-eqb, Decides-and, Decides-like, same_from_decides}
 use Rattle.std.proofs.lemmas.List.{get_or_default}
 use Rattle.std.proofs.lemmas.List.Folds.{list_any_at, Any-from_list_any}
 use Rattle.points.specs.Points.{Gaussian, gaussian, origin, same_part, same}
@@ -14,7 +13,7 @@ part_tells (pos a) (negsuc b) = (λ h. cc, λ e. cc)
 part_tells (negsuc a) (pos b) = (λ h. cc, λ e. cc)
 part_tells (negsuc a) (negsuc b) = Decides-like (a == b) (ap negsuc) (λ e. cc) (Decides-eqb a b)
 
-same_tells : (s t : Gaussian) → Decides (same s t) (s ≡ t)
+pub same_tells : (s t : Gaussian) → Decides (same s t) (s ≡ t)
 same_tells s t =
     Decides-like
     (same s t)
@@ -33,7 +32,16 @@ among_tells s pts i h =
       λ q. list_any_at (λ (v : Gaussian). same v s) (take i pts) q.0 origin (omega (arith, q.1)) ((same_tells (slice_index_or (take i pts) q.0 origin) s).1 (get_or-take i pts q.0 origin q.1 ∙ q.2)),
     )
 
--- what `contains` answers, by the points that the values mean
-pub any_among : {K : Type 0} (eq : K → K → Bool) (m : K → Gaussian) → ((p q : K) → eq p q ≡ same (m p) (m q)) → (p : K) (xs : List K) → list_any (λ q. eq q p) xs ≡ among (m p) (map m xs)
-any_among eq m tells p [] = refl
-any_among eq m tells p (x ∷ xs) = rw (tells x p, any_among eq m tells p xs) refl
+-- values of a kind whose meaning leaves nothing out
+module _ {K : Type 0} (m : K → Gaussian) (faithful : (p q : K) → m p ≡ m q → p ≡ q) where
+  same_as : (r : Bool) (p q : K) → Decides r (p ≡ q) → same (m p) (m q) ≡ r
+  same_as r p q d = same_from_decides (same (m p) (m q)) r (
+    (λ h. faithful p q ((same_tells (m p) (m q)).0 h)),
+    (λ e. (same_tells (m p) (m q)).1 (ap m e)),
+  ) d
+
+  -- the point at an index is looked at, and what is left decides
+  pub among_turn : (xs : List K) (i : ℕ) (p q : K) (r : Bool) → i < length xs → p ≡ slice_index_or xs i p → Decides r (p ≡ q) → among (m q) (map m (drop i xs)) ≡ (r || among (m q) (map m (drop (i + 1) xs)))
+  among_turn xs i p q r within read d =
+      ap (λ (ys : List K). among (m q) (map m ys)) (drop-cons xs i p within)
+      ∙ rw (← read, add-one) (ap (λ (b : Bool). b || among (m q) (map m (drop (suc i) xs))) (same_as r p q d))
